@@ -1,0 +1,4 @@
+pub mod Changes
+pub mod Group
+pub mod Making
+pub mod Sets
