@@ -1,0 +1,18 @@
+use mathlib.Core.Path.{sym, _∙_}
+use native.Mathlib.Omega.{arith}
+use Rattle.std.proofs.shelf.Lists.{at-drop-more, at-drop-all}
+use Rattle.std.proofs.shelf.Ways.{tells}
+use Rattle.line_format.specs.Limits.{pairs-rise}
+use Rattle.line_format.specs.Reading.{no-pair}
+use Rattle.line_format.proofs.limits.pairs_rise.Needs as need
+
+pub returns-then-not-pair-fits : need.returns-then-not-pair-fits
+returns-then-not-pair-fits c =
+    let e = at-drop-more (pairs-rise (c .args .figures .now .r) (c .loop-pair .last)) (c .args .pairs .now) (c .loop-pair .pair-index) no-pair (omega arith) in grind (arith, tells)
+
+pub loop-pair-again : need.loop-pair-again
+loop-pair-again c =
+    let e = at-drop-more (pairs-rise (c .args .figures .now .r) (c .loop-pair .last)) (c .args .pairs .now) (c .loop-pair .pair-index) no-pair (omega arith) in grind (arith, tells)
+
+pub returns : need.returns
+returns c = sym (c .loop-pair .inv ∙ at-drop-all (pairs-rise (c .args .figures .now .r) (c .loop-pair .last)) (c .args .pairs .now) (c .loop-pair .pair-index) (omega arith))

@@ -1,0 +1,6 @@
+pub mod Encoding
+pub mod Faults
+pub mod Fields
+pub mod Limits
+pub mod Reading
+pub mod Writing

@@ -1,0 +1,12 @@
+//! The line format: the nine messages that controllers exchange, read from bytes and written as bytes.
+
+pub mod fault;
+pub mod limits;
+pub mod message;
+mod reading;
+
+pub use fault::LineFault;
+pub use limits::Field;
+pub use message::Message;
+pub use message::Pair;
+pub use message::Promises;
