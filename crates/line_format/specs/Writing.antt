@@ -2,9 +2,9 @@
 use mathlib.Core.Path.{_≡_}
 use mathlib.Core.Bool.{Bool, true, cond}
 use mathlib.Core.List.{List, _++_}
-use Prim.Native.Nat.{ℕ}
+use Prim.Native.Nat.{ℕ, _+_}
 use lib.Dec.{leb, ltb}
-use lib.ListN.{length, drop}
+use lib.ListN.{length, take, drop}
 use Rattle.std.specs.declared.result.Result.{Result}
 use Rattle.std.specs.declared.result.Result.the-variants.{Ok, Err}
 use Rattle.line_format.specs.Encoding.{encode}
@@ -29,6 +29,10 @@ count-fits (MConsensusAck s i b) = true
 count-fits (MRec s i b) = true
 count-fits (MRecAck s i t p a b) = true
 count-fits (MPromises s p) = leb (p .count) most-pairs
+
+-- bytes at a place of a buffer, and the buffer's own before and after them
+abbrev pub laid-at : ℕ → List ℕ → List ℕ → List ℕ
+laid-at at bs buffer = take at buffer ++ (bs ++ drop (at + length bs) buffer)
 
 -- bytes at the start of a buffer, and the buffer's own past them
 abbrev pub laid-over : List ℕ → List ℕ → List ℕ

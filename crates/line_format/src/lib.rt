@@ -3,10 +3,14 @@
 pub mod fault;
 pub mod limits;
 pub mod message;
-mod reading;
+pub mod reading;
+pub mod writing;
 
 pub use fault::LineFault;
 pub use limits::Field;
 pub use message::Message;
 pub use message::Pair;
 pub use message::Promises;
+pub use reading::read;
+pub use reading::shape;
+pub use writing::write;
