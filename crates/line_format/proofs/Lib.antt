@@ -1,3 +1,6 @@
 pub mod Checks
 pub mod Laying
+pub mod Numbers
+pub mod OneEncoding
+pub mod Rows
 pub mod Tables
