@@ -49,10 +49,10 @@ module _ (bs : List ℕ) (fit : Bytes bs) where
   kind-case type n k m next e here later =
       by-test (eqb (int-at bs 0) type && eqb (length bs) n) (Ok k) next m e
       (λ test same.
-        let t : int-at bs 0 ≡ type = grind (arith, tells) in
-        let len : length bs ≡ n = grind (arith, tells) in
-        let is : k ≡ m = cc in
-        subst (λ j. bs ≡ encode j) is (here t len))
+      let t : int-at bs 0 ≡ type = grind (arith, tells) in
+      let len : length bs ≡ n = grind (arith, tells) in
+      let is : k ≡ m = cc in
+      subst (λ j. bs ≡ encode j) is (here t len))
       later
 
   -- the pairs of a message of promises, and nothing after them
@@ -69,8 +69,8 @@ module _ (bs : List ℕ) (fit : Bytes bs) where
       let n = int-at bs 208 in
       let len : length bs ≡ 212 + 8 * n = grind (arith, tells) in
       let
-        opening : fields-at int-at 4 bs 0 2 ≡ 9 ∷ int-at bs 4 ∷ []
-          = fields-at-first int-at 4 bs 0 1 ∙ ap₂ _∷_ t (fields-at-first int-at 4 bs 4 0 ∙ ap (λ l. int-at bs 4 ∷ l) (fields-at-none int-at 4 bs 8)) in
+      opening : fields-at int-at 4 bs 0 2 ≡ 9 ∷ int-at bs 4 ∷ []
+      = fields-at-first int-at 4 bs 0 1 ∙ ap₂ _∷_ t (fields-at-first int-at 4 bs 4 0 ∙ ap (λ l. int-at bs 4 ∷ l) (fields-at-none int-at 4 bs 8)) in
       let row = row-again int-at int-bytes 4 bs (int-there bs fit) 0 2 (omega arith) ∙ ap (λ l. ints l ++ drop 8 bs) opening in
       let words-there = row-again hyper-at hyper-bytes 8 bs (hyper-there bs fit) 8 words (omega arith) in
       let count-there = int-there bs fit 208 (omega arith) in
@@ -90,10 +90,10 @@ module _ (bs : List ℕ) (fit : Bytes bs) where
       (λ e₇. kind-case 7 16 _ m _ e₇ (typed-ints 7 3)
       (λ e₈. kind-case 8 28 _ m _ e₈ (typed-ints 8 6)
       (λ e₉. by-test (eqb (int-at bs 0) 9 && promises-shaped bs) _ _ m e₉
-        (λ test same.
-          let is : MPromises (int-at bs 4) (promises-in bs) ≡ m = cc in
-          subst (λ j. bs ≡ encode j) is (promises-again (both (int-at bs 0) 9 (promises-shaped bs) test .0) (both (int-at bs 0) 9 (promises-shaped bs) test .1)))
-        (λ wrong. let z : _≡_ {A = ℕ} 0 1 = cc in absurd (omega arith)))))))))))
+      (λ test same.
+      let is : MPromises (int-at bs 4) (promises-in bs) ≡ m = cc in
+      subst (λ j. bs ≡ encode j) is (promises-again (both (int-at bs 0) 9 (promises-shaped bs) test .0) (both (int-at bs 0) 9 (promises-shaped bs) test .1)))
+      (λ wrong. let z : _≡_ {A = ℕ} 0 1 = cc in absurd (omega arith)))))))))))
 
 pub one-encoding : (r f : ℕ) → One-encoding r f
 one-encoding r f bs fit m e = shape-again bs fit m (limited-ok r f (shape bs) m e)

@@ -24,14 +24,14 @@ module _ {A : Type 0} (at : List ℕ → ℕ → A) (code : A → List ℕ) (siz
   row-back before after (x ∷ xs) h =
       let rest = fields code xs ++ after in
       let
-        whole : before ++ ((code x ++ fields code xs) ++ after) ≡ before ++ (code x ++ rest)
-          = ap (λ l. before ++ l) (append-assoc (code x) (fields code xs) after) in
+      whole : before ++ ((code x ++ fields code xs) ++ after) ≡ before ++ (code x ++ rest)
+      = ap (λ l. before ++ l) (append-assoc (code x) (fields code xs) after) in
       let moved : before ++ (code x ++ rest) ≡ (before ++ code x) ++ rest = sym (append-assoc before (code x) rest) in
       let n : length (before ++ code x) ≡ length before + size = length-append before (code x) ∙ ap (λ k. length before + k) (long x) in
       let tail = row-back (before ++ code x) after xs (h .1) in
       let
-        tail′ : fields-at at size (before ++ (code x ++ rest)) (length before + size) (length xs) ≡ xs
-          = rw (moved, ← n) tail in
+      tail′ : fields-at at size (before ++ (code x ++ rest)) (length before + size) (length xs) ≡ xs
+      = rw (moved, ← n) tail in
       let first = fields-at-first at size (before ++ (code x ++ rest)) (length before) (length xs) in
       let Back : List ℕ → Type 0 = λ bytes. fields-at at size bytes (length before) (length (x ∷ xs)) ≡ x ∷ xs in
       subst Back (sym whole) (first ∙ ap₂ _∷_ (back before rest x (h .0)) tail′)
@@ -105,8 +105,8 @@ module _ (bytes : List ℕ) (fit : Bytes bytes) where
       let n₄ : p + 3 + 1 ≡ p + 4 = omega arith in
       let same = int-again (getD bytes p 0) (getD bytes (p + 1) 0) (getD bytes (p + 2) 0) (getD bytes (p + 3) 0) (fit p) (fit (p + 1)) (fit (p + 2)) (fit (p + 3)) in
       let
-        four : drop p bytes ≡ getD bytes p 0 ∷ getD bytes (p + 1) 0 ∷ getD bytes (p + 2) 0 ∷ getD bytes (p + 3) 0 ∷ drop (p + 4) bytes
-          = cc in
+      four : drop p bytes ≡ getD bytes p 0 ∷ getD bytes (p + 1) 0 ∷ getD bytes (p + 2) 0 ∷ getD bytes (p + 3) 0 ∷ drop (p + 4) bytes
+      = cc in
       four ∙ sym (ap (λ l. l ++ drop (p + 4) bytes) same)
 
   two-ints : (p : ℕ) → p + 8 ≤ length bytes → drop p bytes ≡ (int-bytes (int-at bytes p) ++ int-bytes (int-at bytes (p + 4))) ++ drop (p + 8) bytes
