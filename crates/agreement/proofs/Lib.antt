@@ -1,0 +1,4 @@
+pub mod Counting
+pub mod Invariant
+pub mod Moves
+pub mod Agree

@@ -1,0 +1,403 @@
+-- Every move keeps the invariant. A move is one or two of the four ways in which a row changes, so each of those is shown once.
+use mathlib.Core.Path.{_≡_, refl, sym, subst, _∙_, ap}
+use mathlib.Core.Bool.{Bool, true, false, cond, _&&_}
+use mathlib.Core.List.{List, [], _∷_}
+use mathlib.Core.Logic.{_⊎_, inl, inr, _≢_}
+use Prim.Native.Nat.{ℕ, zero, suc, _+_, _-_, _%_, _≤_, _<_}
+use native.Mathlib.Nat.{mod-eq-of-lt}
+use native.Mathlib.Omega.{arith}
+use lib.Dec.{eqb, eqb→eq, eqb-refl, T}
+use Rattle.agreement.specs.Sets.{Among, _∈_}
+use Rattle.agreement.specs.OneChange.{Group, Row, Early, Acceptance, Reply, Instant, owner, put, promised, promise-early, promise-late, join-at, accept-at, commit-at, ready, Gathered, Move, after, Allowed, Legal, outcome, first}
+use Rattle.agreement.specs.OneChange.Move.{enter, answer, quick, slow, follow, decide, join, lead, learn}
+use Rattle.agreement.proofs.Invariant.{Proposal, RowOk, EarlyOk, AcceptanceOk, ReplyOk, CommitOk, Source, Gap, One, Inv, Grows, _⊑_, put-each, grows-same, row-survives, early-survives, gathered-survives, source-survives, acceptance-survives, reply-survives, commit-survives}
+use Rattle.agreement.proofs.Invariant.Source.{from-slow, from-lead}
+use Rattle.agreement.proofs.Invariant.CommitOk.{by-quick, by-backing}
+
+clash : {A : Type 0} {b : Bool} → b ≡ true → b ≡ false → A
+clash p q = let z : _≡_ {A = ℕ} 0 1 = cc in absurd (omega arith)
+
+-- An entry of a list with a new one of which P holds is an old one, or P holds of it.
+one-more : {A : Type 0} (P : A → Type 0) (x : A) (xs : List A) → P x → (m : A) → m ∈ (x ∷ xs) → (m ∈ xs) ⊎ P m
+one-more P x xs new m (inl e) = inr (subst P e new)
+one-more P x xs new m (inr q) = inl q
+
+either : {A B : Type 0} → A ⊎ B → (A → B) → B
+either (inl a) f = f a
+either (inr b) f = b
+
+-- What holds of a new entry and of all old ones holds of each.
+each : {A : Type 0} (P : A → Type 0) (x : A) (xs : List A) → P x → ((m : A) → m ∈ xs → P m) → (m : A) → m ∈ (x ∷ xs) → P m
+each P x xs new old m p = either (one-more P x xs new m p) (old m)
+
+-- The row that was put stands at its place.
+at-put : (P : Row → Type 0) (rows : ℕ → Row) (j : ℕ) (x : Row) → P x → P (put rows j x j)
+at-put P rows j x h = go (eqb j j) (eqb-refl j)
+  where
+    go : (b : Bool) → T b → P (cond b x (rows j))
+    go true t = h
+    go false t = absurd t
+
+-- One row grew to x, and nothing that was said is lost.
+grown : {i i′ : Instant} (j : ℕ) (x : Row) → Grows (i .rows j) x → i′ .rows ≡ put (i .rows) j x
+    → ((m : Early) → m ∈ i .earlies → m ∈ i′ .earlies)
+    → ((m : Acceptance) → m ∈ i .acceptances → m ∈ i′ .acceptances)
+    → ((m : Reply) → m ∈ i .replies → m ∈ i′ .replies)
+    → ((t : ℕ) → t ∈ i .commits → t ∈ i′ .commits)
+    → i ⊑ i′
+grown {i} {i′} j x h e a b c d =
+    record {
+      rows =
+          subst (λ (rows : ℕ → Row). (k : ℕ) → Grows (i .rows k) (rows k)) (sym e)
+          (put-each (λ k y. Grows (i .rows k) y) (i .rows) j x h (λ k. grows-same (i .rows k)));
+      earlies = a;
+      acceptances = b;
+      replies = c;
+      commits = d;
+    }
+
+module _ {g : Group} {i : Instant} (inv : Inv g i) where
+  -- It is enough that the new row and the new entries are right.
+  keeps : {i′ : Instant} → i ⊑ i′ → (j : ℕ) (x : Row) → i′ .rows ≡ put (i .rows) j x → RowOk g i′ j x
+      → ((m : Early) → m ∈ i′ .earlies → (m ∈ i .earlies) ⊎ EarlyOk g i′ m)
+      → ((m : Acceptance) → m ∈ i′ .acceptances → (m ∈ i .acceptances) ⊎ AcceptanceOk g i′ m)
+      → ((m : Reply) → m ∈ i′ .replies → (m ∈ i .replies) ⊎ ReplyOk g i′ m)
+      → ((t : ℕ) → t ∈ i′ .commits → (t ∈ i .commits) ⊎ CommitOk g i′ t)
+      → Gap (i′ .replies) (i′ .acceptances)
+      → One (i′ .acceptances)
+      → Inv g i′
+  keeps {i′} ext j x same row earlies acceptances replies commits gap one =
+      record {
+        rows =
+            subst (λ (rows : ℕ → Row). (k : ℕ) → RowOk g i′ k (rows k)) (sym same)
+            (put-each (RowOk g i′) (i .rows) j x row (λ k. row-survives ext k (i .rows k) (inv .rows k)));
+        earlies = λ m p. either (earlies m p) (λ q. early-survives ext m (inv .earlies m q));
+        acceptances = λ m p. either (acceptances m p) (λ q. acceptance-survives ext m (inv .acceptances m q));
+        replies = λ m p. either (replies m p) (λ q. reply-survives ext m (inv .replies m q));
+        commits = λ t p. either (commits t p) (λ q. commit-survives ext t (inv .commits t q));
+        gap = gap;
+        one = one;
+      }
+
+  -- An acceptance was made at no higher ballot than the row's last.
+  reaches : (a : Acceptance) → a ∈ i .acceptances → (j : ℕ) → a .who ≡ j → a .ballot ≤ i .rows j .abal
+  reaches a p j e = subst (λ (k : ℕ). a .ballot ≤ i .rows k .abal) e (inv .acceptances a p .low)
+
+  -- ---- a promise
+
+  -- A controller with no promise and at no ballot.
+  abbrev pub Idle : ℕ → Type 0
+  Idle j = (i .rows j .promise ≡ 0) × (i .rows j .bal ≡ 0) × (i .rows j .done ≡ false)
+
+  promise-grows : (j v : ℕ) (e : Bool) → Idle j → Grows (i .rows j) (promised (i .rows j) v e)
+  promise-grows j v e h =
+      record {
+        promise = λ p. absurd (omega arith);
+        early = λ p. absurd (omega arith);
+        bal = omega arith;
+        abal = omega arith;
+        done = λ d. clash d (h .2);
+      }
+
+  promised-ok : (i′ : Instant) (j v : ℕ) (e : Bool) → Idle j → 1 ≤ v
+      → (e ≡ true → (g .fast j ≡ true) × (1 ≤ i′ .rows (g .home) .promise) × (i′ .rows (g .home) .promise ≤ v))
+      → RowOk g i′ j (promised (i .rows j) v e)
+  promised-ok i′ j v e h pos s =
+      let old = inv .rows j in
+      record {
+        low = old .low;
+        early-made = λ _. pos;
+        early-fast = λ p. s p .0;
+        early-home = λ p. (s p .1, s p .2);
+        own = λ _ _ _. refl;
+        joined = λ _ _. pos;
+        kept = λ _ a. absurd (omega arith);
+        done-said = λ d. clash d (h .2);
+        entered = λ _. (h .1, h .2);
+      }
+
+  early-grows : (j v : ℕ) → Idle j → i ⊑ promise-early i j v
+  early-grows j v h =
+      grown j (promised (i .rows j) v true) (promise-grows j v true h) refl (λ m p. inr p) (λ m p. p) (λ m p. p) (λ m p. p)
+
+  promise-early-keeps : (j v : ℕ) → Idle j → 1 ≤ v → g .fast j ≡ true
+      → (let n = promise-early i j v .rows (g .home) .promise in (1 ≤ n) × (n ≤ v))
+      → Inv g (promise-early i j v)
+  promise-early-keeps j v h pos fast home =
+      let i′ = promise-early i j v in
+      let x = promised (i .rows j) v true in
+      keeps (early-grows j v h) j x refl (promised-ok i′ j v true h pos (λ _. (fast, home .0, home .1)))
+      (one-more (EarlyOk g i′) _ _
+      (record {
+        positive = pos;
+        promise = at-put (λ y. y .promise ≡ v) (i .rows) j x refl;
+        early = at-put (λ y. y .early ≡ true) (i .rows) j x refl;
+      }))
+      (λ m p. inl p) (λ m p. inl p) (λ t p. inl p) (inv .gap) (inv .one)
+
+  late-grows : (j v : ℕ) → Idle j → i ⊑ promise-late i j v
+  late-grows j v h =
+      grown j (promised (i .rows j) v false) (promise-grows j v false h) refl (λ m p. p) (λ m p. p) (λ m p. p) (λ m p. p)
+
+  promise-late-keeps : (j v : ℕ) → Idle j → 1 ≤ v → Inv g (promise-late i j v)
+  promise-late-keeps j v h pos =
+      keeps (late-grows j v h) j (promised (i .rows j) v false) refl
+      (promised-ok _ j v false h pos (λ p. clash p refl))
+      (λ m p. inl p) (λ m p. inl p) (λ m p. inl p) (λ t p. inl p) (inv .gap) (inv .one)
+
+  -- ---- a ballot
+
+  join-keeps : (j b : ℕ) → i .rows j .done ≡ false → i .rows j .bal < b → g .r < b
+      → 1 ≤ i .rows (g .home) .promise
+      → (i .rows j .abal ≡ 0 → 1 ≤ i .rows j .promise)
+      → Inv g (join-at i j b)
+  join-keeps j b pending above high home made =
+      let i′ = join-at i j b in
+      let old = inv .rows j in
+      let x : Row = i .rows j in
+      let y : Row = record { promise = x .promise; early = x .early; bal = b; abal = x .abal; ts = x .ts; done = x .done } in
+      let ext : i ⊑ i′ =
+      grown j y
+      (record { promise = λ _. refl; early = λ _. refl; bal = omega arith; abal = omega arith; done = λ d. clash d pending })
+      refl (λ m p. p) (λ m p. p) (λ m p. inr p) (λ m p. p)
+      in
+      let kept = row-survives ext j x old in
+      let z = ext .rows (g .home) .promise home in
+      keeps ext j y refl
+      (record {
+        low = omega arith;
+        early-made = kept .early-made;
+        early-fast = kept .early-fast;
+        early-home = kept .early-home;
+        own = kept .own;
+        joined = λ _ a. made a;
+        kept = kept .kept;
+        done-said = kept .done-said;
+        entered = λ n. absurd (omega arith);
+      })
+      (λ m p. inl p) (λ m p. inl p)
+      (one-more (ReplyOk g i′) _ _
+      (record {
+        high = high;
+        low = at-put (λ y. b ≤ y .bal) (i .rows) j y (omega arith);
+        before = omega arith;
+        accepted = kept .kept pending;
+        promised =
+            λ a. let n = made a in let own = old .own pending a n in
+            (at-put (λ y. y .promise ≡ x .ts) (i .rows) j y (sym own), omega arith, at-put (λ y. y .early ≡ x .early) (i .rows) j y refl);
+      }))
+      (λ t p. inl p)
+      (each (λ m. (a : Acceptance) → a ∈ i .acceptances → a .who ≡ m .who → a .ballot < m .ballot → a .ballot ≤ m .abal) _ _
+      (λ a p w _. reaches a p j w) (inv .gap))
+      (inv .one)
+
+  accept-keeps : (j b t : ℕ) → i .rows j .done ≡ false → i .rows j .bal ≤ b → 1 ≤ b
+      → 1 ≤ i .rows (g .home) .promise
+      → Proposal g (accept-at i j b t) b t
+      → Source g i b t
+      → ((m : Acceptance) → m ∈ i .acceptances → m .ballot ≡ b → m .value ≡ t)
+      → Inv g (accept-at i j b t)
+  accept-keeps j b t pending above pos home proposed source same =
+      let i′ = accept-at i j b t in
+      let old = inv .rows j in
+      let x : Row = i .rows j in
+      let y : Row = record { promise = x .promise; early = x .early; bal = b; abal = b; ts = t; done = x .done } in
+      let ext : i ⊑ i′ =
+      grown j y
+      (record { promise = λ _. refl; early = λ _. refl; bal = above; abal = omega arith; done = λ d. clash d pending })
+      refl (λ m p. p) (λ m p. inr p) (λ m p. p) (λ m p. p)
+      in
+      let kept = row-survives ext j x old in
+      let z = ext .rows (g .home) .promise home in
+      keeps ext j y refl
+      (record {
+        low = omega arith;
+        early-made = kept .early-made;
+        early-fast = kept .early-fast;
+        early-home = kept .early-home;
+        own = λ _ a _. absurd (omega arith);
+        joined = λ _ a. absurd (omega arith);
+        kept = λ _ _. inl refl;
+        done-said = λ d. clash d pending;
+        entered = λ n. absurd (omega arith);
+      })
+      (λ m p. inl p)
+      (one-more (AcceptanceOk g i′) _ _
+      (record {
+        positive = pos;
+        low = at-put (λ y. b ≤ y .abal) (i .rows) j y (omega arith);
+        proposed = proposed;
+        source = source-survives ext source;
+      }))
+      (λ m p. inl p) (λ t p. inl p)
+      (λ m p. each (λ a. a .who ≡ m .who → a .ballot < m .ballot → a .ballot ≤ m .abal) _ _
+      (λ w l. let n = subst (λ (k : ℕ). m .ballot ≤ i .rows k .bal) (sym w) (inv .replies m p .low) in absurd (omega arith))
+      (inv .gap m p))
+      (λ m n p q. each (λ m. m .ballot ≡ n .ballot → m .value ≡ n .value) _ _
+      (each (λ n. b ≡ n .ballot → t ≡ n .value) _ _ (λ _. refl) (λ n q e. sym (same n q (sym e))) n q)
+      (λ m p. each (λ n. m .ballot ≡ n .ballot → m .value ≡ n .value) _ _ (same m p) (λ n q. inv .one m n p q) n q)
+      m p)
+
+  commit-keeps : (j t : ℕ) → i .rows j .done ≡ false → 1 ≤ i .rows (g .home) .promise
+      → (i ⊑ commit-at i j t → CommitOk g (commit-at i j t) t)
+      → Inv g (commit-at i j t)
+  commit-keeps j t pending home ok =
+      let i′ = commit-at i j t in
+      let old = inv .rows j in
+      let x : Row = i .rows j in
+      let y : Row = record { promise = x .promise; early = x .early; bal = x .bal; abal = x .abal; ts = t; done = true } in
+      let ext : i ⊑ i′ =
+      grown j y
+      (record { promise = λ _. refl; early = λ _. refl; bal = omega arith; abal = omega arith; done = λ d. clash d pending })
+      refl (λ m p. p) (λ m p. p) (λ m p. p) (λ m p. inr p)
+      in
+      let kept = row-survives ext j x old in
+      let z = ext .rows (g .home) .promise home in
+      keeps ext j y refl
+      (record {
+        low = kept .low;
+        early-made = kept .early-made;
+        early-fast = kept .early-fast;
+        early-home = kept .early-home;
+        own = λ d _ _. clash refl d;
+        joined = kept .joined;
+        kept = λ d _. clash refl d;
+        done-said = λ _. inl refl;
+        entered = λ n. absurd (omega arith);
+      })
+      (λ m p. inl p) (λ m p. inl p) (λ m p. inl p) (one-more (CommitOk g i′) _ _ (ok ext)) (inv .gap) (inv .one)
+
+-- ---- the moves
+
+module _ {g : Group} {i : Instant} (inv : Inv g i) where
+  -- A row at a ballot is there only after the change was entered.
+  entered : (k : ℕ) → 1 ≤ i .rows k .bal → 1 ≤ i .rows (g .home) .promise
+  entered k h = positive _ (λ z. let e = inv .rows k .entered z .0 in absurd (omega arith))
+    where
+      positive : (n : ℕ) → (n ≡ 0 → ⊥) → 1 ≤ n
+      positive zero h = absurd (h refl)
+      positive (suc n) h = omega arith
+
+  entered-accepted : (m : Acceptance) → m ∈ i .acceptances → 1 ≤ i .rows (g .home) .promise
+  entered-accepted m p =
+      let a = inv .acceptances m p in
+      let x = inv .rows (m .who) in
+      entered (m .who) (omega arith)
+
+  entered-gathered : {t : ℕ} → Gathered g i t → 1 ≤ i .rows (g .home) .promise
+  entered-gathered e =
+      let h = inv .earlies _ (e .said (g .home) (g .home-first, g .home-last, g .fast-home)) in
+      omega arith
+
+  entered-committed : {t : ℕ} → CommitOk g i t → 1 ≤ i .rows (g .home) .promise
+  entered-committed (by-quick e n d z) = entered-gathered e
+  entered-committed (by-backing b p s) = entered-accepted _ p
+
+  -- The home's own number is a ballot of its own.
+  owner-home : owner g (g .home) ≡ g .home
+  owner-home =
+      let l : g .home - 1 < g .r = omega (arith, g .home-first, g .home-last) in
+      let e = mod-eq-of-lt l in
+      omega (arith, g .home-first)
+
+  -- Whoever accepted at b, the owner accepted there too, at no higher ballot than its last.
+  owner-reaches : (b : ℕ) (m : Acceptance) → m ∈ i .acceptances → m .ballot ≡ b → b ≤ i .rows (owner g b) .abal
+  owner-reaches b m p e =
+      let n = reaches inv _ (inv .acceptances m p .proposed) (owner g b) (ap (owner g) e) in
+      omega arith
+
+  pub home-reaches : (m : Acceptance) → m ∈ i .acceptances → m .ballot ≡ g .home → g .home ≤ i .rows (g .home) .abal
+  home-reaches m p e = rw owner-home at (owner-reaches (g .home) m p e)
+
+  move-keeps : (m : Move) → Allowed g i m → Inv g (after g i m)
+  move-keeps (enter v) (none, pos) =
+      let h = inv .rows (g .home) .entered none in
+      promise-early-keeps inv (g .home) v (none, h .0, h .1) pos (g .fast-home)
+      (at-put (λ y. (1 ≤ y .promise) × (y .promise ≤ v)) (i .rows) (g .home) _ (pos, omega arith))
+  move-keeps (answer j v) (fast, none, low, pending, (m, said, above)) =
+      let h = inv .earlies _ said in
+      let s = early-grows inv j v (none, low, pending) .rows (g .home) .promise (omega arith) in
+      promise-early-keeps inv j v (none, low, pending) (omega arith) fast (omega arith, omega arith)
+  move-keeps (quick t) (e, enough, low, pending) =
+      commit-keeps inv (g .home) t pending (entered-gathered e)
+      (λ ext. by-quick (gathered-survives ext e) enough
+      (at-put (λ y. y .done ≡ true) (i .rows) (g .home) _ refl)
+      (at-put (λ y. y .bal ≡ 0) (i .rows) (g .home) _ low))
+  move-keeps (slow t) (e, low, pending) =
+      let x = inv .rows (g .home) in
+      accept-keeps inv (g .home) (g .home) t pending (omega arith) (g .home-first) (entered-gathered e)
+      (inl (ap (λ (k : ℕ). record { who = k; ballot = g .home; value = t }) (sym owner-home)))
+      (from-slow refl e)
+      (λ m p q. let n = home-reaches m p q in absurd (omega (arith, g .home-first)))
+  move-keeps (follow j b t) (said, above, pending) =
+      let a = inv .acceptances _ said in
+      accept-keeps inv j b t pending above (a .positive) (entered-accepted _ said) (inr said) (a .source)
+      (λ m p e. inv .one m _ p said e)
+  move-keeps (decide b) (backing, pos, at, pending) =
+      let o = owner g b in
+      let x = inv .rows o in
+      commit-keeps inv o (i .rows o .ts) pending (entered o (omega arith))
+      (λ ext. by-backing b
+      (subst (λ (c : ℕ). record { who = o; ballot = c; value = i .rows o .ts } ∈ i .acceptances) at (x .kept pending (omega arith)))
+      backing)
+  move-keeps (join j b v) (home, high, above, pending, pos) = go _ refl
+    where
+      idle : (m n : ℕ) → (eqb m 0 && eqb n 0) ≡ true → (m ≡ 0) × (n ≡ 0)
+      idle m n e = grind arith
+
+      busy : (m n : ℕ) → (eqb m 0 && eqb n 0) ≡ false → (1 ≤ m → 1 ≤ n) → 1 ≤ n
+      busy m n e h = grind arith
+
+      go : (c : Bool) → (eqb (i .rows j .bal) 0 && eqb (i .rows j .promise) 0) ≡ c
+          → Inv g (join-at (cond c (promise-late i j v) i) j b)
+      go true e =
+          let (low, none) = idle _ _ e in
+          let h : Idle inv j = (none, low, pending) in
+          let s = late-grows inv j v h .rows (g .home) .promise home in
+          join-keeps (promise-late-keeps inv j v h pos) j b
+          (at-put (λ y. y .done ≡ false) (i .rows) j _ pending)
+          (at-put (λ y. y .bal < b) (i .rows) j _ above)
+          high (omega arith)
+          (λ _. at-put (λ y. 1 ≤ y .promise) (i .rows) j _ pos)
+      go false e =
+          join-keeps inv j b pending above high home (λ a. busy _ _ e (λ n. inv .rows j .joined n a))
+  move-keeps (lead b t) (high, q, pick, at, new, pending) =
+      let o = owner g b in
+      let x = inv .rows o in
+      accept-keeps inv o b t pending (omega arith) (omega arith) (entered o (omega arith)) (inl refl) (from-lead high q pick)
+      (λ m p e. let n = owner-reaches b m p e in absurd (new (omega arith)))
+  move-keeps (learn j t) (said, pending) =
+      let c = inv .commits t said in
+      commit-keeps inv j t pending (entered-committed c) (λ ext. commit-survives ext t c)
+
+run-keeps : {g : Group} (ms : List Move) {i : Instant} → Inv g i → Legal g i ms → Inv g (outcome g i ms)
+run-keeps [] inv l = inv
+run-keeps (m ∷ ms) inv (a, l) = run-keeps ms (move-keeps inv m a) l
+
+first-ok : (g : Group) → Inv g first
+first-ok g =
+    record {
+      rows =
+          λ k.
+          record {
+            low = omega arith;
+            early-made = λ e. clash e refl;
+            early-fast = λ e. clash e refl;
+            early-home = λ e. clash e refl;
+            own = λ _ _ _. refl;
+            joined = λ p _. p;
+            kept = λ _ p. absurd (omega arith);
+            done-said = λ d. clash d refl;
+            entered = λ _. (refl, refl);
+          };
+      earlies = λ m p. absurd p;
+      acceptances = λ m p. absurd p;
+      replies = λ m p. absurd p;
+      commits = λ t p. absurd p;
+      gap = λ m p. absurd p;
+      one = λ m n p. absurd p;
+    }
+
+-- The invariant holds after any list of moves.
+pub holds : (g : Group) (ms : List Move) → Legal g first ms → Inv g (outcome g first ms)
+holds g ms l = run-keeps ms (first-ok g) l

@@ -1,0 +1,40 @@
+-- Sets of controllers as truth-valued functions, how many members they have, and the quorums of a group.
+use mathlib.Core.Path.{_≡_}
+use mathlib.Core.Bool.{Bool, true, false, cond, _&&_, _||_}
+use mathlib.Core.List.{List, [], _∷_}
+use mathlib.Core.Logic.{_⊎_, inl, inr}
+use Prim.Native.Nat.{ℕ, zero, suc, _+_, _-_, _/_, _≤_}
+
+infixr 60 _∈_
+abbrev pub Set : Type 0
+Set = ℕ → Bool
+
+-- How many of the controllers 1 to n are in the set.
+unfoldable pub count : Set → ℕ → ℕ
+count A zero = 0
+count A (suc n) = cond (A (suc n)) 1 0 + count A n
+
+-- Controller j is one of 1 to n, and in the set.
+abbrev pub Among : ℕ → Set → ℕ → Type 0
+Among n A j = (1 ≤ j) × (j ≤ n) × (A j ≡ true)
+
+-- More than half of a group of r.
+abbrev pub majority : ℕ → ℕ
+majority r = r / 2 + 1
+
+-- So many promises on the home's proposal make a timestamp.
+abbrev pub fast-quorum : ℕ → ℕ → ℕ
+fast-quorum r f = r / 2 + f
+
+-- So many acceptances at one ballot commit.
+abbrev pub slow-quorum : ℕ → ℕ
+slow-quorum f = f + 1
+
+-- So many replies let the owner of a ballot choose.
+abbrev pub take-over-quorum : ℕ → ℕ → ℕ
+take-over-quorum r f = r - f
+
+-- x is an entry of the list.
+abbrev pub _∈_ : {A : Type 0} → A → List A → Type 0
+x ∈ [] = ⊥
+x ∈ (y ∷ ys) = (y ≡ x) ⊎ (x ∈ ys)
