@@ -1,13 +1,12 @@
 -- What holds at every instant of one change, and that it goes on holding as rows and lists grow.
-use mathlib.Core.Path.{_≡_, refl, sym, subst, _∙_}
-use mathlib.Core.Bool.{Bool, true, false, cond}
+use mathlib.Core.Path.{_≡_, refl, _∙_}
+use mathlib.Core.Bool.{Bool, true, false}
 use mathlib.Core.List.{List, [], _∷_}
 use mathlib.Core.Logic.{_⊎_, inl, inr}
 use Prim.Native.Nat.{ℕ, zero, suc, _+_, _≤_, _<_}
 use native.Mathlib.Omega.{arith}
-use lib.Dec.{eqb, eqb→eq, T}
 use Rattle.agreement.specs.Sets.{count, Among, _∈_}
-use Rattle.agreement.specs.OneChange.{Group, Row, Early, Acceptance, Reply, Instant, owner, put, Gathered, givers, Replied, Picked, Backing}
+use Rattle.agreement.specs.OneChange.{Group, Row, Early, Acceptance, Reply, Instant, owner, Gathered, givers, Replied, Picked, Backing}
 use Rattle.agreement.specs.OneChange.Picked.{by-ballot, by-all, by-fast}
 
 -- ---- the facts
@@ -94,14 +93,6 @@ pub record _⊑_ (i i′ : Instant) : Type 0 where
   pub commits : (t : ℕ) → t ∈ i .commits → t ∈ i′ .commits
 
 infix 40 _⊑_
--- Of a table with one row put, each row is the new one or an old one.
-pub put-each : (P : ℕ → Row → Type 0) (rows : ℕ → Row) (j : ℕ) (x : Row) → P j x → ((k : ℕ) → P k (rows k)) → (k : ℕ) → P k (put rows j x k)
-put-each P rows j x new old k = go (eqb j k) refl
-  where
-    go : (b : Bool) → eqb j k ≡ b → P k (cond b x (rows k))
-    go true e = subst (λ (n : ℕ). P n x) (eqb→eq j k (subst T (sym e) tt)) new
-    go false e = old k
-
 pub grows-same : (x : Row) → Grows x x
 grows-same x =
     record { promise = λ _. refl; early = λ _. refl; bal = omega arith; abal = omega arith; done = λ d. (d, refl) }

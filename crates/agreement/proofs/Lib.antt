@@ -1,4 +1,6 @@
+pub mod Agree
+pub mod Carrying
 pub mod Counting
 pub mod Invariant
 pub mod Moves
-pub mod Agree
+pub mod Tables

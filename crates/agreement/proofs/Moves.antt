@@ -7,36 +7,13 @@ use Prim.Native.Nat.{ℕ, zero, suc, _+_, _-_, _%_, _≤_, _<_}
 use native.Mathlib.Nat.{mod-eq-of-lt}
 use native.Mathlib.Omega.{arith}
 use lib.Dec.{eqb, eqb→eq, eqb-refl, T}
-use Rattle.agreement.specs.Sets.{Among, _∈_}
-use Rattle.agreement.specs.OneChange.{Group, Row, Early, Acceptance, Reply, Instant, owner, put, promised, promise-early, promise-late, join-at, accept-at, commit-at, ready, Gathered, Move, after, Allowed, Legal, outcome, first}
+use Rattle.agreement.specs.Sets.{Among, _∈_, put}
+use Rattle.agreement.specs.OneChange.{Group, Row, Early, Acceptance, Reply, Instant, owner, promised, promise-early, promise-late, join-at, accept-at, commit-at, ready, Gathered, Move, after, Allowed, Legal, outcome, first}
 use Rattle.agreement.specs.OneChange.Move.{enter, answer, quick, slow, follow, decide, join, lead, learn}
-use Rattle.agreement.proofs.Invariant.{Proposal, RowOk, EarlyOk, AcceptanceOk, ReplyOk, CommitOk, Source, Gap, One, Inv, Grows, _⊑_, put-each, grows-same, row-survives, early-survives, gathered-survives, source-survives, acceptance-survives, reply-survives, commit-survives}
+use Rattle.agreement.proofs.Tables.{clash, one-more, either, each, put-each, at-put}
+use Rattle.agreement.proofs.Invariant.{Proposal, RowOk, EarlyOk, AcceptanceOk, ReplyOk, CommitOk, Source, Gap, One, Inv, Grows, _⊑_, grows-same, row-survives, early-survives, gathered-survives, source-survives, acceptance-survives, reply-survives, commit-survives}
 use Rattle.agreement.proofs.Invariant.Source.{from-slow, from-lead}
 use Rattle.agreement.proofs.Invariant.CommitOk.{by-quick, by-backing}
-
-clash : {A : Type 0} {b : Bool} → b ≡ true → b ≡ false → A
-clash p q = let z : _≡_ {A = ℕ} 0 1 = cc in absurd (omega arith)
-
--- An entry of a list with a new one of which P holds is an old one, or P holds of it.
-one-more : {A : Type 0} (P : A → Type 0) (x : A) (xs : List A) → P x → (m : A) → m ∈ (x ∷ xs) → (m ∈ xs) ⊎ P m
-one-more P x xs new m (inl e) = inr (subst P e new)
-one-more P x xs new m (inr q) = inl q
-
-either : {A B : Type 0} → A ⊎ B → (A → B) → B
-either (inl a) f = f a
-either (inr b) f = b
-
--- What holds of a new entry and of all old ones holds of each.
-each : {A : Type 0} (P : A → Type 0) (x : A) (xs : List A) → P x → ((m : A) → m ∈ xs → P m) → (m : A) → m ∈ (x ∷ xs) → P m
-each P x xs new old m p = either (one-more P x xs new m p) (old m)
-
--- The row that was put stands at its place.
-at-put : (P : Row → Type 0) (rows : ℕ → Row) (j : ℕ) (x : Row) → P x → P (put rows j x j)
-at-put P rows j x h = go (eqb j j) (eqb-refl j)
-  where
-    go : (b : Bool) → T b → P (cond b x (rows j))
-    go true t = h
-    go false t = absurd t
 
 -- One row grew to x, and nothing that was said is lost.
 grown : {i i′ : Instant} (j : ℕ) (x : Row) → Grows (i .rows j) x → i′ .rows ≡ put (i .rows) j x
@@ -49,7 +26,7 @@ grown {i} {i′} j x h e a b c d =
     record {
       rows =
           subst (λ (rows : ℕ → Row). (k : ℕ) → Grows (i .rows k) (rows k)) (sym e)
-          (put-each (λ k y. Grows (i .rows k) y) (i .rows) j x h (λ k. grows-same (i .rows k)));
+          (put-each (i .rows) j x (λ k y. Grows (i .rows k) y) h (λ k. grows-same (i .rows k)));
       earlies = a;
       acceptances = b;
       replies = c;
@@ -70,7 +47,7 @@ module _ {g : Group} {i : Instant} (inv : Inv g i) where
       record {
         rows =
             subst (λ (rows : ℕ → Row). (k : ℕ) → RowOk g i′ k (rows k)) (sym same)
-            (put-each (RowOk g i′) (i .rows) j x row (λ k. row-survives ext k (i .rows k) (inv .rows k)));
+            (put-each (i .rows) j x (RowOk g i′) row (λ k. row-survives ext k (i .rows k) (inv .rows k)));
         earlies = λ m p. either (earlies m p) (λ q. early-survives ext m (inv .earlies m q));
         acceptances = λ m p. either (acceptances m p) (λ q. acceptance-survives ext m (inv .acceptances m q));
         replies = λ m p. either (replies m p) (λ q. reply-survives ext m (inv .replies m q));
@@ -130,8 +107,8 @@ module _ {g : Group} {i : Instant} (inv : Inv g i) where
       (one-more (EarlyOk g i′) _ _
       (record {
         positive = pos;
-        promise = at-put (λ y. y .promise ≡ v) (i .rows) j x refl;
-        early = at-put (λ y. y .early ≡ true) (i .rows) j x refl;
+        promise = at-put (i .rows) j x (λ y. y .promise ≡ v) refl;
+        early = at-put (i .rows) j x (λ y. y .early ≡ true) refl;
       }))
       (λ m p. inl p) (λ m p. inl p) (λ t p. inl p) (inv .gap) (inv .one)
 
@@ -179,12 +156,12 @@ module _ {g : Group} {i : Instant} (inv : Inv g i) where
       (one-more (ReplyOk g i′) _ _
       (record {
         high = high;
-        low = at-put (λ y. b ≤ y .bal) (i .rows) j y (omega arith);
+        low = at-put (i .rows) j y (λ y. b ≤ y .bal) (omega arith);
         before = omega arith;
         accepted = kept .kept pending;
         promised =
             λ a. let n = made a in let own = old .own pending a n in
-            (at-put (λ y. y .promise ≡ x .ts) (i .rows) j y (sym own), omega arith, at-put (λ y. y .early ≡ x .early) (i .rows) j y refl);
+            (at-put (i .rows) j y (λ y. y .promise ≡ x .ts) (sym own), omega arith, at-put (i .rows) j y (λ y. y .early ≡ x .early) refl);
       }))
       (λ t p. inl p)
       (each (λ m. (a : Acceptance) → a ∈ i .acceptances → a .who ≡ m .who → a .ballot < m .ballot → a .ballot ≤ m .abal) _ _
@@ -225,7 +202,7 @@ module _ {g : Group} {i : Instant} (inv : Inv g i) where
       (one-more (AcceptanceOk g i′) _ _
       (record {
         positive = pos;
-        low = at-put (λ y. b ≤ y .abal) (i .rows) j y (omega arith);
+        low = at-put (i .rows) j y (λ y. b ≤ y .abal) (omega arith);
         proposed = proposed;
         source = source-survives ext source;
       }))
@@ -313,7 +290,7 @@ module _ {g : Group} {i : Instant} (inv : Inv g i) where
   move-keeps (enter v) (none, pos) =
       let h = inv .rows (g .home) .entered none in
       promise-early-keeps inv (g .home) v (none, h .0, h .1) pos (g .fast-home)
-      (at-put (λ y. (1 ≤ y .promise) × (y .promise ≤ v)) (i .rows) (g .home) _ (pos, omega arith))
+      (at-put (i .rows) (g .home) _ (λ y. (1 ≤ y .promise) × (y .promise ≤ v)) (pos, omega arith))
   move-keeps (answer j v) (fast, none, low, pending, (m, said, above)) =
       let h = inv .earlies _ said in
       let s = early-grows inv j v (none, low, pending) .rows (g .home) .promise (omega arith) in
@@ -321,8 +298,8 @@ module _ {g : Group} {i : Instant} (inv : Inv g i) where
   move-keeps (quick t) (e, enough, low, pending) =
       commit-keeps inv (g .home) t pending (entered-gathered e)
       (λ ext. by-quick (gathered-survives ext e) enough
-      (at-put (λ y. y .done ≡ true) (i .rows) (g .home) _ refl)
-      (at-put (λ y. y .bal ≡ 0) (i .rows) (g .home) _ low))
+      (at-put (i .rows) (g .home) _ (λ y. y .done ≡ true) refl)
+      (at-put (i .rows) (g .home) _ (λ y. y .bal ≡ 0) low))
   move-keeps (slow t) (e, low, pending) =
       let x = inv .rows (g .home) in
       accept-keeps inv (g .home) (g .home) t pending (omega arith) (g .home-first) (entered-gathered e)
@@ -355,10 +332,10 @@ module _ {g : Group} {i : Instant} (inv : Inv g i) where
           let h : Idle inv j = (none, low, pending) in
           let s = late-grows inv j v h .rows (g .home) .promise home in
           join-keeps (promise-late-keeps inv j v h pos) j b
-          (at-put (λ y. y .done ≡ false) (i .rows) j _ pending)
-          (at-put (λ y. y .bal < b) (i .rows) j _ above)
+          (at-put (i .rows) j _ (λ y. y .done ≡ false) pending)
+          (at-put (i .rows) j _ (λ y. y .bal < b) above)
           high (omega arith)
-          (λ _. at-put (λ y. 1 ≤ y .promise) (i .rows) j _ pos)
+          (λ _. at-put (i .rows) j _ (λ y. 1 ≤ y .promise) pos)
       go false e =
           join-keeps inv j b pending above high home (λ a. busy _ _ e (λ n. inv .rows j .joined n a))
   move-keeps (lead b t) (high, q, pick, at, new, pending) =

@@ -1,2 +1,3 @@
-pub mod Sets
 pub mod OneChange
+pub mod Order
+pub mod Sets

@@ -6,7 +6,7 @@ use mathlib.Core.List.{List, [], _∷_}
 use mathlib.Core.Logic.{_⊎_, inl, inr, _≢_}
 use Prim.Native.Nat.{ℕ, _+_, _-_, _*_, _%_, _≤_, _<_}
 use lib.Dec.{eqb}
-use Rattle.agreement.specs.Sets.{Set, count, Among, majority, fast-quorum, slow-quorum, take-over-quorum, _∈_}
+use Rattle.agreement.specs.Sets.{Set, count, Among, majority, fast-quorum, slow-quorum, take-over-quorum, _∈_, put}
 
 -- A group of r controllers that tolerates f silent ones, and one change: its home and its fast set.
 pub record Group : Type 0 where
@@ -79,9 +79,6 @@ first =
     }
 
 -- ---- the four ways in which a row changes
-
-abbrev pub put : (ℕ → Row) → ℕ → Row → ℕ → Row
-put rows j x k = cond (eqb j k) x (rows k)
 
 -- The row after it promised v.
 abbrev pub promised : Row → ℕ → Bool → Row

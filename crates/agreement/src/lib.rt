@@ -3,6 +3,7 @@
 ghost use mathlib.Core.Path.{_≡_};
 ghost use Rattle.agreement.specs.Sets.{fast-quorum};
 ghost use Rattle.agreement.specs.OneChange.{One-timestamp};
+ghost use Rattle.agreement.specs.Order.{entry, lower, Lawful, Same-beginnings};
 
 // How many members the fast set of a change has, in a group of r that tolerates f silent ones.
 // With fast sets of that size a group agrees on one timestamp for a change, whatever it does.
@@ -11,4 +12,21 @@ pub fn fast_set_size(r: u8, f: u8) -> u16
     ensures law { λ _. ⌜ One-timestamp ⌝ }
 {
     (r as u16) / 2 + f as u16
+}
+
+// Whether the first change, by its timestamp and then its number, comes before the second.
+fn is_lower(ts: u64, change: u64, second_ts: u64, second: u64) -> bool
+    ensures { λ b. ⌜ b ≡ lower (entry ts change) (entry «second_ts» second) ⌝ }
+{
+    ts < second_ts || (ts == second_ts && change < second)
+}
+
+// Whether the first change comes before the second.
+// In this order, and in any other that puts a lower timestamp first, controllers carry out lists that are beginnings of one another.
+pub fn comes_before(ts: u64, change: u64, second_ts: u64, second: u64) -> bool
+    ensures order { λ b. ⌜ b ≡ lower (entry ts change) (entry «second_ts» second) ⌝ }
+    ensures lawful { λ _. ⌜ Lawful lower ⌝ }
+    ensures law { λ _. ⌜ Same-beginnings ⌝ }
+{
+    is_lower(ts, change, second_ts, second)
 }

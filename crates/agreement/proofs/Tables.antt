@@ -1,0 +1,44 @@
+-- Lists with one more entry, and tables with one place put.
+use mathlib.Core.Path.{_≡_, refl, sym, subst}
+use mathlib.Core.Bool.{Bool, true, false, cond}
+use mathlib.Core.List.{List, [], _∷_}
+use mathlib.Core.Logic.{_⊎_, inl, inr}
+use Prim.Native.Nat.{ℕ}
+use native.Mathlib.Omega.{arith}
+use lib.Dec.{eqb, eqb→eq, eqb-refl, T}
+use Rattle.agreement.specs.Sets.{_∈_, put}
+
+pub clash : {A : Type 0} {b : Bool} → b ≡ true → b ≡ false → A
+clash p q =
+    let z : _≡_ {A = ℕ} 0 1 = cc in
+    absurd (omega arith)
+
+pub either : {A B : Type 0} → A ⊎ B → (A → B) → B
+either (inl a) f = f a
+either (inr b) f = b
+
+-- An entry of a list with a new one of which P holds is an old one, or P holds of it.
+pub one-more : {A : Type 0} (P : A → Type 0) (x : A) (xs : List A) → P x → (m : A) → m ∈ (x ∷ xs) → (m ∈ xs) ⊎ P m
+one-more P x xs new m (inl e) = inr (subst P e new)
+one-more P x xs new m (inr q) = inl q
+
+-- What holds of a new entry and of all old ones holds of each.
+pub each : {A : Type 0} (P : A → Type 0) (x : A) (xs : List A) → P x → ((m : A) → m ∈ xs → P m) → (m : A) → m ∈ (x ∷ xs) → P m
+each P x xs new old m p = either (one-more P x xs new m p) (old m)
+
+module _ {A : Type 0} (table : ℕ → A) (j : ℕ) (x : A) where
+  -- Of a table with one place put, each place holds the new thing or an old one.
+  pub put-each : (P : ℕ → A → Type 0) → P j x → ((k : ℕ) → P k (table k)) → (k : ℕ) → P k (put table j x k)
+  put-each P new old k = go (eqb j k) refl
+    where
+      go : (b : Bool) → eqb j k ≡ b → P k (cond b x (table k))
+      go true e = subst (λ (n : ℕ). P n x) (eqb→eq j k (subst T (sym e) tt)) new
+      go false e = old k
+
+  -- What was put stands at its place.
+  pub at-put : (P : A → Type 0) → P x → P (put table j x j)
+  at-put P h = go (eqb j j) (eqb-refl j)
+    where
+      go : (b : Bool) → T b → P (cond b x (table j))
+      go true t = h
+      go false t = absurd t
