@@ -10,15 +10,11 @@ use lib.Dec.{eqb, eqb→eq, eqb-refl, T}
 use Rattle.agreement.specs.Sets.{Set, count, Among, majority, _∈_}
 use Rattle.agreement.specs.OneChange.{Group, Acceptance, Reply, Instant, owner, Gathered, givers, Replied, fast-repliers, Picked, Backing, Majority-below, Promised, Agreed, Move, Legal, outcome, first, One-timestamp}
 use Rattle.agreement.specs.OneChange.Picked.{by-ballot, by-all, by-fast}
-use Rattle.agreement.proofs.Counting.{_∩_, _∪_, count-all, count-some, count-lt, count-two, count-le, share}
+use Rattle.agreement.proofs.Counting.{_∩_, _∪_, count-all, count-lt, count-two, share, and-both, meet}
 use Rattle.agreement.proofs.Invariant.{Proposal, Inv, Source, CommitOk}
 use Rattle.agreement.proofs.Invariant.Source.{from-slow, from-lead}
 use Rattle.agreement.proofs.Invariant.CommitOk.{by-quick, by-backing}
 use Rattle.agreement.proofs.Moves.{holds, home-reaches}
-
-and-both : (a b : Bool) → (a && b) ≡ true → (a ≡ true) × (b ≡ true)
-and-both true b e = (refl, e)
-and-both false b e = let z : _≡_ {A = ℕ} 0 1 = cc in absurd (omega arith)
 
 or-either : (a b : Bool) → (a || b) ≡ true → (a ≡ true) ⊎ (b ≡ true)
 or-either true b e = inl refl
@@ -49,13 +45,6 @@ below P step c = go (suc c) c (omega arith)
 
 module _ {g : Group} {i : Instant} (inv : Inv g i) where
   -- ---- ballots
-
-  -- Two sets that count more than the group share a controller.
-  meet : (A B : Set) → g .r < count A (g .r) + count B (g .r) → (j : ℕ) × Among (g .r) A j × Among (g .r) B j
-  meet A B l =
-      let (j, m) = share A B (λ _. true) (g .r) (λ _ _. refl) (λ _ _. refl) (omega (arith, count-all (λ _. true) (g .r))) in
-      let (a, b) = and-both (A j) (B j) (m .2) in
-      (j, (m .0, m .1, a), (m .0, m .1, b))
 
   -- From ballot b on, every value proposed is t.
   abbrev Fixed : ℕ → ℕ → ℕ → Type 0
@@ -88,7 +77,7 @@ module _ {g : Group} {i : Instant} (inv : Inv g i) where
       later : (c u : ℕ) → ((d : ℕ) → d < c → Fixed b t d) → b < c → Source g i c u → u ≡ t
       later c u ih l (from-slow e _) = absurd (lowest b t (omega arith) (inv .acceptances _ p .source))
       later c u ih l (from-lead _ q pick) =
-          let (j, w, x) = meet s (q .who) (omega (arith, q .enough)) in
+          let (j, w, x) = meet s (q .who) (g .r) (omega (arith, q .enough)) in
           picked c u ih q pick j x (inv .acceptances _ p .positive) (inv .gap _ (q .said j x) _ (a j w .1) refl l)
 
       step : (c : ℕ) → ((d : ℕ) → d < c → Fixed b t d) → Fixed b t c

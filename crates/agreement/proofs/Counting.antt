@@ -7,6 +7,7 @@ use native.Mathlib.Decide.{ℕ-discrete}
 use native.Mathlib.Omega.{arith}
 use lib.Dec.{eqb}
 use Rattle.agreement.specs.Sets.{Set, count, Among}
+use Rattle.agreement.proofs.Tables.{clash}
 
 abbrev pub _∩_ : Set → Set → Set
 _∩_ A B j = A j && B j
@@ -97,3 +98,14 @@ share A B C n a b h =
     either : (x y z : Bool) → (x || y) ≡ true → (x ≡ true → z ≡ true) → (y ≡ true → z ≡ true) → z ≡ true
     either true y z e f g = f refl
     either false y z e f g = g e
+
+pub and-both : (a b : Bool) → (a && b) ≡ true → (a ≡ true) × (b ≡ true)
+and-both true b e = (refl, e)
+and-both false b e = clash e refl
+
+-- Two sets that together count more than n share one of 1 to n.
+pub meet : (A B : Set) (n : ℕ) → n < count A n + count B n → (j : ℕ) × Among n A j × Among n B j
+meet A B n l =
+    let (j, m) = share A B (λ _. true) n (λ _ _. refl) (λ _ _. refl) (omega (arith, count-all (λ _. true) n)) in
+    let (a, b) = and-both (A j) (B j) (m .2) in
+    (j, (m .0, m .1, a), (m .0, m .1, b))

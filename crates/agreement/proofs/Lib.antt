@@ -3,4 +3,5 @@ pub mod Carrying
 pub mod Counting
 pub mod Invariant
 pub mod Moves
+pub mod Stability
 pub mod Tables

@@ -1,3 +1,4 @@
 pub mod OneChange
 pub mod Order
+pub mod Promises
 pub mod Sets

@@ -1,8 +1,9 @@
 // The laws of a group of controllers, in the abstract: each stands on the contract of one small function.
 // Nothing here knows what a change asks for, how it is numbered, or how large a group may be.
 ghost use mathlib.Core.Path.{_≡_};
-ghost use Rattle.agreement.specs.Sets.{fast-quorum};
+ghost use Rattle.agreement.specs.Sets.{fast-quorum, majority};
 ghost use Rattle.agreement.specs.OneChange.{One-timestamp};
+ghost use Rattle.agreement.specs.Promises.{Nothing-below};
 ghost use Rattle.agreement.specs.Order.{entry, lower, Lawful, Same-beginnings};
 
 // How many members the fast set of a change has, in a group of r that tolerates f silent ones.
@@ -12,6 +13,15 @@ pub fn fast_set_size(r: u8, f: u8) -> u16
     ensures law { λ _. ⌜ One-timestamp ⌝ }
 {
     (r as u16) / 2 + f as u16
+}
+
+// How many controllers are more than half of r.
+// Once a controller knows all promises of so many up to a timestamp, nothing is left to come up to it.
+pub fn majority_size(r: u8) -> u8
+    ensures size { λ n. ⌜ n ≡ majority r ⌝ }
+    ensures law { λ _. ⌜ Nothing-below ⌝ }
+{
+    r / 2 + 1
 }
 
 // Whether the first change, by its timestamp and then its number, comes before the second.
