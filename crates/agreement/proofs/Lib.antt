@@ -1,4 +1,5 @@
 pub mod Agree
+pub mod Bits
 pub mod Carrying
 pub mod Counting
 pub mod Invariant

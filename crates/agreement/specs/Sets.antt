@@ -3,7 +3,8 @@ use mathlib.Core.Path.{_≡_}
 use mathlib.Core.Bool.{Bool, true, false, cond, _&&_, _||_}
 use mathlib.Core.List.{List, [], _∷_}
 use mathlib.Core.Logic.{_⊎_, inl, inr}
-use Prim.Native.Nat.{ℕ, zero, suc, _+_, _-_, _/_, _≤_}
+use Prim.Native.Nat.{ℕ, zero, suc, _+_, _-_, _/_, _%_, _^_, _≤_, _<_}
+use lib.Count.{ones}
 use lib.Dec.{eqb}
 
 infixr 60 _∈_
@@ -14,6 +15,14 @@ Set = ℕ → Bool
 unfoldable pub count : Set → ℕ → ℕ
 count A zero = 0
 count A (suc n) = cond (A (suc n)) 1 0 + count A n
+
+-- The set that a number stands for: its bit j − 1, the lowest being bit 0, says whether controller j is in it.
+abbrev pub bits : ℕ → Set
+bits s j = eqb ((s / 2 ^ (j - 1)) % 2) 1
+
+-- A set as a number has as many members as the number has bits set.
+abbrev pub Bits-are-members : Type 0
+Bits-are-members = (s n : ℕ) → s < 2 ^ n → count (bits s) n ≡ ones s
 
 -- Controller j is one of 1 to n, and in the set.
 abbrev pub Among : ℕ → Set → ℕ → Type 0

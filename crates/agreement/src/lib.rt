@@ -1,7 +1,7 @@
 // The laws of a group of controllers, in the abstract: each stands on the contract of one small function.
 // Nothing here knows what a change asks for, how it is numbered, or how large a group may be.
 ghost use mathlib.Core.Path.{_≡_};
-ghost use Rattle.agreement.specs.Sets.{fast-quorum, majority};
+ghost use Rattle.agreement.specs.Sets.{fast-quorum, majority, count, bits, Bits-are-members};
 ghost use Rattle.agreement.specs.OneChange.{One-timestamp};
 ghost use Rattle.agreement.specs.Promises.{Nothing-below};
 ghost use Rattle.agreement.specs.Order.{entry, lower, Lawful, Same-beginnings};
@@ -22,6 +22,15 @@ pub fn majority_size(r: u8) -> u8
     ensures law { λ _. ⌜ Nothing-below ⌝ }
 {
     r / 2 + 1
+}
+
+// How many of 64 controllers are in a set that is given as a number, whose bit j - 1 stands for controller j.
+// The laws speak of sets as truth-valued functions; the number of bits set is the number of members.
+pub fn set_size(set: u64) -> u32
+    ensures size { λ n. ⌜ n ≡ count (bits set) 64 ⌝ }
+    ensures law { λ _. ⌜ Bits-are-members ⌝ }
+{
+    set.count_ones()
 }
 
 // Whether the first change, by its timestamp and then its number, comes before the second.
