@@ -1,4 +1,5 @@
 pub mod OneChange
 pub mod Order
 pub mod Promises
+pub mod Samples
 pub mod Sets

@@ -5,6 +5,7 @@ ghost use Rattle.agreement.specs.Sets.{fast-quorum, majority, count, bits, Bit
 ghost use Rattle.agreement.specs.OneChange.{One-timestamp};
 ghost use Rattle.agreement.specs.Promises.{Nothing-below};
 ghost use Rattle.agreement.specs.Order.{entry, lower, Lawful, Same-beginnings};
+ghost use Rattle.agreement.specs.Samples.{Samples};
 
 // How many members the fast set of a change has, in a group of r that tolerates f silent ones.
 // With fast sets of that size a group agrees on one timestamp for a change, whatever it does.
@@ -48,4 +49,12 @@ pub fn comes_before(ts: u64, change: u64, second_ts: u64, second: u64) -> bool
     ensures law { λ _. ⌜ Same-beginnings ⌝ }
 {
     is_lower(ts, change, second_ts, second)
+}
+
+// The timestamp that small runs to which the laws apply commit: on the fast path, on the slow path, and by a take over
+// in each of the three ways of choosing. So the laws speak of something.
+pub fn sample_timestamp() -> u8
+    ensures { λ t. ⌜ Samples t ⌝ }
+{
+    11
 }
