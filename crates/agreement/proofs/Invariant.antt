@@ -17,8 +17,6 @@ Proposal g i b t = record { who = owner g b; ballot = b; value = t } ∈ i .acce
 
 pub record RowOk (g : Group) (i : Instant) (k : ℕ) (x : Row) : Type 0 where
   pub low : x .abal ≤ x .bal
-  pub early-made : x .early ≡ true → 1 ≤ x .promise
-  pub early-fast : x .early ≡ true → g .fast k ≡ true
   pub early-home : x .early ≡ true → (1 ≤ i .rows (g .home) .promise) × (i .rows (g .home) .promise ≤ x .promise)
   pub own : x .done ≡ false → x .abal ≡ 0 → 1 ≤ x .promise → x .ts ≡ x .promise
   pub joined : 1 ≤ x .bal → x .abal ≡ 0 → 1 ≤ x .promise
@@ -43,7 +41,6 @@ pub record AcceptanceOk (g : Group) (i : Instant) (m : Acceptance) : Type 0 wher
   pub source : Source g i (m .ballot) (m .value)
 
 pub record ReplyOk (g : Group) (i : Instant) (m : Reply) : Type 0 where
-  pub high : g .r < m .ballot
   pub low : m .ballot ≤ i .rows (m .who) .bal
   pub before : m .abal < m .ballot
   pub accepted : 1 ≤ m .abal → record { who = m .who; ballot = m .abal; value = m .ts } ∈ i .acceptances
@@ -107,8 +104,6 @@ module _ {g : Group} {i i′ : Instant} (e : i ⊑ i′) where
       let home = e .rows (g .home) in
       record {
         low = h .low;
-        early-made = h .early-made;
-        early-fast = h .early-fast;
         early-home = λ p. let q = h .early-home p in let s = home .promise (q .0) in (omega arith, omega arith);
         own = h .own;
         joined = h .joined;
@@ -171,7 +166,6 @@ module _ {g : Group} {i i′ : Instant} (e : i ⊑ i′) where
   reply-survives m h =
       let x = e .rows (m .who) in
       record {
-        high = h .high;
         low = omega arith;
         before = h .before;
         accepted = λ a. e .acceptances _ (h .accepted a);

@@ -77,15 +77,13 @@ module _ {g : Group} {i : Instant} (inv : Inv g i) where
       }
 
   promised-ok : (i′ : Instant) (j v : ℕ) (e : Bool) → Idle j → 1 ≤ v
-      → (e ≡ true → (g .fast j ≡ true) × (1 ≤ i′ .rows (g .home) .promise) × (i′ .rows (g .home) .promise ≤ v))
+      → (e ≡ true → (1 ≤ i′ .rows (g .home) .promise) × (i′ .rows (g .home) .promise ≤ v))
       → RowOk g i′ j (promised (i .rows j) v e)
   promised-ok i′ j v e h pos s =
       let old = inv .rows j in
       record {
         low = old .low;
-        early-made = λ _. pos;
-        early-fast = λ p. s p .0;
-        early-home = λ p. (s p .1, s p .2);
+        early-home = s;
         own = λ _ _ _. refl;
         joined = λ _ _. pos;
         kept = λ _ a. absurd (omega arith);
@@ -97,13 +95,13 @@ module _ {g : Group} {i : Instant} (inv : Inv g i) where
   early-grows j v h =
       grown j (promised (i .rows j) v true) (promise-grows j v true h) refl (λ m p. inr p) (λ m p. p) (λ m p. p) (λ m p. p)
 
-  promise-early-keeps : (j v : ℕ) → Idle j → 1 ≤ v → g .fast j ≡ true
+  promise-early-keeps : (j v : ℕ) → Idle j → 1 ≤ v
       → (let n = promise-early i j v .rows (g .home) .promise in (1 ≤ n) × (n ≤ v))
       → Inv g (promise-early i j v)
-  promise-early-keeps j v h pos fast home =
+  promise-early-keeps j v h pos home =
       let i′ = promise-early i j v in
       let x = promised (i .rows j) v true in
-      keeps (early-grows j v h) j x refl (promised-ok i′ j v true h pos (λ _. (fast, home .0, home .1)))
+      keeps (early-grows j v h) j x refl (promised-ok i′ j v true h pos (λ _. home))
       (one-more (EarlyOk g i′) _ _
       (record {
         positive = pos;
@@ -124,11 +122,11 @@ module _ {g : Group} {i : Instant} (inv : Inv g i) where
 
   -- ---- a ballot
 
-  join-keeps : (j b : ℕ) → i .rows j .done ≡ false → i .rows j .bal < b → g .r < b
+  join-keeps : (j b : ℕ) → i .rows j .done ≡ false → i .rows j .bal < b
       → 1 ≤ i .rows (g .home) .promise
       → (i .rows j .abal ≡ 0 → 1 ≤ i .rows j .promise)
       → Inv g (join-at i j b)
-  join-keeps j b pending above high home made =
+  join-keeps j b pending above home made =
       let i′ = join-at i j b in
       let old = inv .rows j in
       let x : Row = i .rows j in
@@ -143,8 +141,6 @@ module _ {g : Group} {i : Instant} (inv : Inv g i) where
       keeps ext j y refl
       (record {
         low = omega arith;
-        early-made = kept .early-made;
-        early-fast = kept .early-fast;
         early-home = kept .early-home;
         own = kept .own;
         joined = λ _ a. made a;
@@ -155,7 +151,6 @@ module _ {g : Group} {i : Instant} (inv : Inv g i) where
       (λ m p. inl p) (λ m p. inl p)
       (one-more (ReplyOk g i′) _ _
       (record {
-        high = high;
         low = at-put (i .rows) j y (λ y. b ≤ y .bal) (omega arith);
         before = omega arith;
         accepted = kept .kept pending;
@@ -189,8 +184,6 @@ module _ {g : Group} {i : Instant} (inv : Inv g i) where
       keeps ext j y refl
       (record {
         low = omega arith;
-        early-made = kept .early-made;
-        early-fast = kept .early-fast;
         early-home = kept .early-home;
         own = λ _ a _. absurd (omega arith);
         joined = λ _ a. absurd (omega arith);
@@ -215,17 +208,17 @@ module _ {g : Group} {i : Instant} (inv : Inv g i) where
       (λ m p. each (λ n. m .ballot ≡ n .ballot → m .value ≡ n .value) _ _ (same m p) (λ n q. inv .one m n p q) n q)
       m p)
 
-  commit-keeps : (j t : ℕ) → i .rows j .done ≡ false → 1 ≤ i .rows (g .home) .promise
+  commit-keeps : (j t : ℕ) → 1 ≤ i .rows (g .home) .promise
       → (i ⊑ commit-at i j t → CommitOk g (commit-at i j t) t)
       → Inv g (commit-at i j t)
-  commit-keeps j t pending home ok =
+  commit-keeps j t home ok =
       let i′ = commit-at i j t in
       let old = inv .rows j in
       let x : Row = i .rows j in
       let y : Row = record { promise = x .promise; early = x .early; bal = x .bal; abal = x .abal; ts = t; done = true } in
       let ext : i ⊑ i′ =
       grown j y
-      (record { promise = λ _. refl; early = λ _. refl; bal = omega arith; abal = omega arith; done = λ d. clash d pending })
+      (record { promise = λ _. refl; early = λ _. refl; bal = omega arith; abal = omega arith; done = λ _. (refl, refl) })
       refl (λ m p. p) (λ m p. p) (λ m p. p) (λ m p. inr p)
       in
       let kept = row-survives ext j x old in
@@ -233,8 +226,6 @@ module _ {g : Group} {i : Instant} (inv : Inv g i) where
       keeps ext j y refl
       (record {
         low = kept .low;
-        early-made = kept .early-made;
-        early-fast = kept .early-fast;
         early-home = kept .early-home;
         own = λ d _ _. clash refl d;
         joined = kept .joined;
@@ -289,14 +280,14 @@ module _ {g : Group} {i : Instant} (inv : Inv g i) where
   move-keeps : (m : Move) → Allowed g i m → Inv g (after g i m)
   move-keeps (enter v) (none, pos) =
       let h = inv .rows (g .home) .entered none in
-      promise-early-keeps inv (g .home) v (none, h .0, h .1) pos (g .fast-home)
+      promise-early-keeps inv (g .home) v (none, h .0, h .1) pos
       (at-put (i .rows) (g .home) _ (λ y. (1 ≤ y .promise) × (y .promise ≤ v)) (pos, omega arith))
-  move-keeps (answer j v) (fast, none, low, pending, (m, said, above)) =
+  move-keeps (answer j v) (none, low, pending, (m, said, above)) =
       let h = inv .earlies _ said in
       let s = early-grows inv j v (none, low, pending) .rows (g .home) .promise (omega arith) in
-      promise-early-keeps inv j v (none, low, pending) (omega arith) fast (omega arith, omega arith)
-  move-keeps (quick t) (e, enough, low, pending) =
-      commit-keeps inv (g .home) t pending (entered-gathered e)
+      promise-early-keeps inv j v (none, low, pending) (omega arith) (omega arith, omega arith)
+  move-keeps (quick t) (e, enough, low) =
+      commit-keeps inv (g .home) t (entered-gathered e)
       (λ ext. by-quick (gathered-survives ext e) enough
       (at-put (i .rows) (g .home) _ (λ y. y .done ≡ true) refl)
       (at-put (i .rows) (g .home) _ (λ y. y .bal ≡ 0) low))
@@ -313,11 +304,11 @@ module _ {g : Group} {i : Instant} (inv : Inv g i) where
   move-keeps (decide b) (backing, pos, at, pending) =
       let o = owner g b in
       let x = inv .rows o in
-      commit-keeps inv o (i .rows o .ts) pending (entered o (omega arith))
+      commit-keeps inv o (i .rows o .ts) (entered o (omega arith))
       (λ ext. by-backing b
       (subst (λ (c : ℕ). record { who = o; ballot = c; value = i .rows o .ts } ∈ i .acceptances) at (x .kept pending (omega arith)))
       backing)
-  move-keeps (join j b v) (home, high, above, pending, pos) = go _ refl
+  move-keeps (join j b v) (home, above, pending, pos) = go _ refl
     where
       idle : (m n : ℕ) → (eqb m 0 && eqb n 0) ≡ true → (m ≡ 0) × (n ≡ 0)
       idle m n e = grind arith
@@ -334,18 +325,18 @@ module _ {g : Group} {i : Instant} (inv : Inv g i) where
           join-keeps (promise-late-keeps inv j v h pos) j b
           (at-put (i .rows) j _ (λ y. y .done ≡ false) pending)
           (at-put (i .rows) j _ (λ y. y .bal < b) above)
-          high (omega arith)
+          (omega arith)
           (λ _. at-put (i .rows) j _ (λ y. 1 ≤ y .promise) pos)
       go false e =
-          join-keeps inv j b pending above high home (λ a. busy _ _ e (λ n. inv .rows j .joined n a))
+          join-keeps inv j b pending above home (λ a. busy _ _ e (λ n. inv .rows j .joined n a))
   move-keeps (lead b t) (high, q, pick, at, new, pending) =
       let o = owner g b in
       let x = inv .rows o in
       accept-keeps inv o b t pending (omega arith) (omega arith) (entered o (omega arith)) (inl refl) (from-lead high q pick)
       (λ m p e. let n = owner-reaches b m p e in absurd (new (omega arith)))
-  move-keeps (learn j t) (said, pending) =
+  move-keeps (learn j t) said =
       let c = inv .commits t said in
-      commit-keeps inv j t pending (entered-committed c) (λ ext. commit-survives ext t c)
+      commit-keeps inv j t (entered-committed c) (λ ext. commit-survives ext t c)
 
 run-keeps : {g : Group} (ms : List Move) {i : Instant} → Inv g i → Legal g i ms → Inv g (outcome g i ms)
 run-keeps [] inv l = inv
@@ -358,8 +349,6 @@ first-ok g =
           λ k.
           record {
             low = omega arith;
-            early-made = λ e. clash e refl;
-            early-fast = λ e. clash e refl;
             early-home = λ e. clash e refl;
             own = λ _ _ _. refl;
             joined = λ p _. p;

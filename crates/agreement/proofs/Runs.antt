@@ -35,6 +35,11 @@ five =
       fast-home = refl;
     }
 
+infixr 5 _then_
+-- A move may be made, and then the rest.
+abbrev _then_ : {A B : Type 0} → A → B → A × B
+a then b = (a, b)
+
 -- Who is not in the set need not be looked at.
 out : {A : Type 0} → false ≡ true → A
 out e = clash e refl
@@ -60,16 +65,12 @@ abbrev promised : ℕ → Instant
 promised v = outcome five first (asked v [])
 
 asked-legal : (v : ℕ) → 6 ≤ v → (rest : List Move) → Legal five (promised v) rest → Legal five first (asked v rest)
-asked-legal v l rest legal = (
-  (refl, lit≤ tt),
-  (
-    (refl, refl, refl, refl, (6, inl refl, lit≤ tt)),
-    (
-      (refl, refl, refl, refl, (6, inr (inl refl), lit≤ tt)),
-      ((refl, refl, refl, refl, (6, inr (inr (inl refl)), l)), legal),
-    ),
-  ),
-)
+asked-legal v l rest legal =
+    (refl, lit≤ tt)
+    then (refl, refl, refl, (6, inl refl, lit≤ tt))
+    then (refl, refl, refl, (6, inr (inl refl), lit≤ tt))
+    then (refl, refl, refl, (6, inr (inr (inl refl)), l))
+    then legal
 
 abbrev gathered : (v : ℕ) → v ≤ 11 → Gathered five (promised v) 11
 gathered v l =
@@ -86,19 +87,26 @@ gathered v l =
 
 fast : Commits fast-run 11
 unfolding count
-fast =
-    (five, refl, refl, asked-legal 11 (lit≤ tt) (quick 11 ∷ []) ((gathered 11 (lit≤ tt), lit≤ tt, refl, refl), tt), refl)
-
-slow-run-commits : Commits slow-run 11
-unfolding count
-slow-run-commits = (
+fast = (
   five,
   refl,
   refl,
-  asked-legal 6 (lit≤ tt) (slow 11 ∷ follow 2 1 11 ∷ follow 5 1 11 ∷ decide 1 ∷ []) (
-    (gathered 6 (lit≤ tt), refl, refl),
-    ((inl refl, lit≤ tt, refl), ((inr (inl refl), lit≤ tt, refl), ((backing, lit≤ tt, refl, refl), tt))),
-  ),
+  asked-legal 11 (lit≤ tt) (quick 11 ∷ []) ((gathered 11 (lit≤ tt), lit≤ tt, refl) then tt),
+  refl,
+)
+
+slow-path : Commits slow-run 11
+unfolding count
+slow-path = (
+  five,
+  refl,
+  refl,
+  asked-legal 6 (lit≤ tt) (slow 11 ∷ follow 2 1 11 ∷ follow 5 1 11 ∷ decide 1 ∷ [])
+      ((gathered 6 (lit≤ tt), refl, refl)
+      then (inl refl, lit≤ tt, refl)
+      then (inr (inl refl), lit≤ tt, refl)
+      then (backing, lit≤ tt, refl, refl)
+      then tt),
   refl,
 )
   where
@@ -117,7 +125,7 @@ seen : (i : Instant) → i .rows 3 .bal ≤ 10 → i .rows 3 .done ≡ false →
     → Legal five (after five i (lead 10 11)) seen-through
 unfolding count
 seen i l3 d3 l4 d4 d5 =
-    ((inl refl, l3, d3), ((inr (inl refl), l4, d4), ((backing, lit≤ tt, refl, d5), tt)))
+    (inl refl, l3, d3) then (inr (inl refl), l4, d4) then (backing, lit≤ tt, refl, d5) then tt
   where
     backing : Backing five (outcome five (after five i (lead 10 11)) (follow 3 10 11 ∷ follow 4 10 11 ∷ [])) 10
     backing = (
@@ -147,25 +155,14 @@ greatest-ballot = (
   five,
   refl,
   refl,
-  asked-legal 6 (lit≤ tt) (slow 11 ∷ follow 2 1 11 ∷ join 5 10 1 ∷ join 2 10 1 ∷ join 4 10 1 ∷ []) (
-    (gathered 6 (lit≤ tt), refl, refl),
-    (
-      (inl refl, lit≤ tt, refl),
-      (
-        (lit≤ tt, lit< tt, lit< tt, refl, lit≤ tt),
-        ((lit≤ tt, lit< tt, lit< tt, refl, lit≤ tt), ((lit≤ tt, lit< tt, lit< tt, refl, lit≤ tt), tt)),
-      ),
-    ),
-  ),
-  (
-    lit< tt,
-    replied,
-    by-ballot 2 (lit≤ tt, lit≤ tt, refl) (lit≤ tt)
-        (each-of _ _ out (λ _. lit≤ tt) out (λ _. lit≤ tt) (λ _. lit≤ tt)) refl,
-    refl,
-    omega arith,
-    refl,
-  ),
+  asked-legal 6 (lit≤ tt) (slow 11 ∷ follow 2 1 11 ∷ join 5 10 1 ∷ join 2 10 1 ∷ join 4 10 1 ∷ [])
+      ((gathered 6 (lit≤ tt), refl, refl)
+      then (inl refl, lit≤ tt, refl)
+      then (lit≤ tt, lit< tt, refl, lit≤ tt)
+      then (lit≤ tt, lit< tt, refl, lit≤ tt)
+      then (lit≤ tt, lit< tt, refl, lit≤ tt)
+      then tt),
+  (lit< tt, replied, picked, refl, omega arith, refl),
   refl,
   seen i (lit≤ tt) refl (lit≤ tt) refl refl,
   refl,
@@ -175,8 +172,13 @@ greatest-ballot = (
     i = outcome five first accepted-before
 
     replied : Replied five i 10
-    replied = from-rows i 26 (lit≤ tt)
-        (each-of _ _ out (λ _. inr (inl refl)) out (λ _. inl refl) (λ _. inr (inr (inl refl))))
+    replied = from-rows i 26 (lit≤ tt) (each-of _ _ out (λ _. inr (inl refl)) out (λ _. inl refl) (λ _. inr (inr (inl refl))))
+
+    picked : Picked five replied 11
+    picked =
+        by-ballot 2 (lit≤ tt, lit≤ tt, refl) (lit≤ tt)
+        (each-of _ _ out (λ _. lit≤ tt) out (λ _. lit≤ tt) (λ _. lit≤ tt))
+        refl
 
 all : Takes-over of-all home-replies 10 11 seen-through
 unfolding count
@@ -184,27 +186,13 @@ all = (
   five,
   refl,
   refl,
-  (
-    (refl, lit≤ tt),
-    (
-      (refl, refl, refl, refl, (6, inl refl, lit≤ tt)),
-      (
-        (lit≤ tt, lit< tt, lit< tt, refl, lit≤ tt),
-        ((lit≤ tt, lit< tt, lit< tt, refl, lit≤ tt), ((lit≤ tt, lit< tt, lit< tt, refl, lit≤ tt), tt)),
-      ),
-    ),
-  ),
-  (
-    lit< tt,
-    replied,
-    by-all (each-of _ _ (λ _. refl) out (λ _. refl) out (λ _. refl))
-        (1, (lit≤ tt, lit≤ tt, refl), inl refl)
-        (each-of _ _ (λ _. lit≤ tt) out (λ _. lit≤ tt) out (λ _. lit≤ tt))
-        (3, (lit≤ tt, lit≤ tt, refl), refl),
-    refl,
-    omega arith,
-    refl,
-  ),
+  (refl, lit≤ tt)
+      then (refl, refl, refl, (6, inl refl, lit≤ tt))
+      then (lit≤ tt, lit< tt, refl, lit≤ tt)
+      then (lit≤ tt, lit< tt, refl, lit≤ tt)
+      then (lit≤ tt, lit< tt, refl, lit≤ tt)
+      then tt,
+  (lit< tt, replied, picked, refl, omega arith, refl),
   refl,
   seen i (lit≤ tt) refl (lit≤ tt) refl refl,
   refl,
@@ -214,8 +202,14 @@ all = (
     i = outcome five first home-replies
 
     replied : Replied five i 10
-    replied = from-rows i 21 (lit≤ tt)
-        (each-of _ _ (λ _. inr (inl refl)) out (λ _. inl refl) out (λ _. inr (inr (inl refl))))
+    replied = from-rows i 21 (lit≤ tt) (each-of _ _ (λ _. inr (inl refl)) out (λ _. inl refl) out (λ _. inr (inr (inl refl))))
+
+    picked : Picked five replied 11
+    picked =
+        by-all (each-of _ _ (λ _. refl) out (λ _. refl) out (λ _. refl))
+        (1, (lit≤ tt, lit≤ tt, refl), inl refl)
+        (each-of _ _ (λ _. lit≤ tt) out (λ _. lit≤ tt) out (λ _. lit≤ tt))
+        (3, (lit≤ tt, lit≤ tt, refl), refl)
 
 fast-set : Takes-over of-fast-set home-silent 10 11 seen-through
 unfolding count
@@ -223,30 +217,14 @@ fast-set = (
   five,
   refl,
   refl,
-  (
-    (refl, lit≤ tt),
-    (
-      (refl, refl, refl, refl, (6, inl refl, lit≤ tt)),
-      (
-        (refl, refl, refl, refl, (6, inr (inl refl), lit≤ tt)),
-        (
-          (lit≤ tt, lit< tt, lit< tt, refl, lit≤ tt),
-          ((lit≤ tt, lit< tt, lit< tt, refl, lit≤ tt), ((lit≤ tt, lit< tt, lit< tt, refl, lit≤ tt), tt)),
-        ),
-      ),
-    ),
-  ),
-  (
-    lit< tt,
-    replied,
-    by-fast (each-of _ _ out out (λ _. refl) (λ _. refl) (λ _. refl))
-        (each-of _ _ out out (λ _. (omega arith, refl)) (λ _. (omega arith, refl)) out)
-        (each-of _ _ out out (λ _. lit≤ tt) (λ _. lit≤ tt) out)
-        (3, (lit≤ tt, lit≤ tt, refl), refl),
-    refl,
-    omega arith,
-    refl,
-  ),
+  (refl, lit≤ tt)
+      then (refl, refl, refl, (6, inl refl, lit≤ tt))
+      then (refl, refl, refl, (6, inr (inl refl), lit≤ tt))
+      then (lit≤ tt, lit< tt, refl, lit≤ tt)
+      then (lit≤ tt, lit< tt, refl, lit≤ tt)
+      then (lit≤ tt, lit< tt, refl, lit≤ tt)
+      then tt,
+  (lit< tt, replied, picked, refl, omega arith, refl),
   refl,
   seen i (lit≤ tt) refl (lit≤ tt) refl refl,
   refl,
@@ -256,57 +234,42 @@ fast-set = (
     i = outcome five first home-silent
 
     replied : Replied five i 10
-    replied = from-rows i 28 (lit≤ tt)
-        (each-of _ _ out out (λ _. inr (inl refl)) (λ _. inl refl) (λ _. inr (inr (inl refl))))
+    replied = from-rows i 28 (lit≤ tt) (each-of _ _ out out (λ _. inr (inl refl)) (λ _. inl refl) (λ _. inr (inr (inl refl))))
 
--- ---- carrying out
+    picked : Picked five replied 11
+    picked =
+        by-fast (each-of _ _ out out (λ _. refl) (λ _. refl) (λ _. refl))
+        (each-of _ _ out out (λ _. (omega arith, refl)) (λ _. (omega arith, refl)) out)
+        (each-of _ _ out out (λ _. lit≤ tt) (λ _. lit≤ tt) out)
+        (3, (lit≤ tt, lit≤ tt, refl), refl)
 
-two-carried : Carries-out-two 11
-two-carried = (
-  (
-    (lit≤ tt, refl, (λ k p. absurd (omega arith)), (λ k p. absurd (omega arith))),
-    (
-      (lit≤ tt, refl, (λ k p. grind arith), (λ k p. grind arith)),
-      (
-        (lit≤ tt, (λ k c p l. grind arith)),
-        (((lit≤ tt, lit≤ tt, λ p. p), λ d p. grind arith), (((lit≤ tt, lit≤ tt, λ p. grind arith), λ d p. grind arith), tt)),
-      ),
-    ),
-  ),
+-- ---- carrying out, and promises
+
+carried : Carries-out-two 11
+carried = (
+  (lit≤ tt, refl, (λ k p. absurd (omega arith)), (λ k p. absurd (omega arith)))
+      then (lit≤ tt, refl, (λ k p. grind arith), (λ k p. grind arith))
+      then (lit≤ tt, (λ k c p l. grind arith))
+      then ((lit≤ tt, lit≤ tt, λ p. p), λ d p. grind arith)
+      then ((lit≤ tt, lit≤ tt, λ p. grind arith), λ d p. grind arith)
+      then tt,
   refl,
 )
 
 settled : Settles
 unfolding count
 settled = (
-  (
-    (lit≤ tt, lit≤ tt, lit≤ tt, lit≤ tt, refl, lit< tt, (0, lit≤ tt, (1, lit≤ tt, lit≤ tt, lit≤ tt))),
-    (
-      (lit≤ tt, lit≤ tt, lit≤ tt, lit≤ tt, refl, lit< tt, (0, lit≤ tt, (1, lit≤ tt, lit≤ tt, lit≤ tt))),
-      (
-        (lit≤ tt, lit≤ tt, lit≤ tt, lit≤ tt, refl, lit< tt, (0, lit≤ tt, (1, lit≤ tt, lit≤ tt, lit≤ tt))),
-        (
-          tt,
-          (
-            tt,
-            (
-              tt,
-              (
-                (refl, (bits 7, lit≤ tt, each-of _ _ (λ _. (lit≤ tt, lit≤ tt)) (λ _. (lit≤ tt, lit≤ tt)) (λ _. (lit≤ tt, lit≤ tt)) out out)),
-                (
-                  (_, inr (inr (inl refl)), refl, inr (1, lit≤ tt, lit≤ tt, refl)),
-                  (
-                    (_, inr (inl refl), refl, inr (1, lit≤ tt, lit≤ tt, refl)),
-                    ((_, inl refl, refl, inr (1, lit≤ tt, lit≤ tt, refl)), tt),
-                  ),
-                ),
-              ),
-            ),
-          ),
-        ),
-      ),
-    ),
-  ),
+  (lit≤ tt, lit≤ tt, lit≤ tt, lit≤ tt, refl, lit< tt, (0, lit≤ tt, (1, lit≤ tt, lit≤ tt, lit≤ tt)))
+      then (lit≤ tt, lit≤ tt, lit≤ tt, lit≤ tt, refl, lit< tt, (0, lit≤ tt, (1, lit≤ tt, lit≤ tt, lit≤ tt)))
+      then (lit≤ tt, lit≤ tt, lit≤ tt, lit≤ tt, refl, lit< tt, (0, lit≤ tt, (1, lit≤ tt, lit≤ tt, lit≤ tt)))
+      then tt
+      then tt
+      then tt
+      then (refl, (bits 7, lit≤ tt, each-of _ _ (λ _. (lit≤ tt, lit≤ tt)) (λ _. (lit≤ tt, lit≤ tt)) (λ _. (lit≤ tt, lit≤ tt)) out out))
+      then (_, inr (inr (inl refl)), refl, inr (1, lit≤ tt, lit≤ tt, refl))
+      then (_, inr (inl refl), refl, inr (1, lit≤ tt, lit≤ tt, refl))
+      then (_, inl refl, refl, inr (1, lit≤ tt, lit≤ tt, refl))
+      then tt,
   (bits 7, lit≤ tt, each-of _ _ (λ _ u p q. grind arith) (λ _ u p q. grind arith) (λ _ u p q. grind arith) out out),
 )
 
@@ -314,10 +277,10 @@ pub samples : Samples 11
 samples =
     record {
       fast = fast;
-      slow = slow-run-commits;
+      slow = slow-path;
       greatest-ballot = greatest-ballot;
       all = all;
       fast-set = fast-set;
-      carried = two-carried;
+      carried = carried;
       settled = settled;
     }

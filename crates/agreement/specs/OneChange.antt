@@ -245,28 +245,47 @@ Backing g i b =
     (who : Set) × (slow-quorum (g .f) ≤ count who (g .r))
     × ((j : ℕ) → Among (g .r) who j → (t : ℕ) × (record { who = j; ballot = b; value = t } ∈ i .acceptances))
 
+-- Beside each move: which conditions of the rules it stands for, and which of them the law does without.
+-- That a controller is one of the r is nowhere needed: the sets are counted over 1 to r.
 abbrev pub Allowed : Group → Instant → Move → Type 0
+-- The home takes a number that it has not used, and promises a timestamp above its clock.
+-- Not needed: that nothing else stands in its row, that v is above the clock.
 Allowed g i (enter v) = (i .rows (g .home) .promise ≡ 0) × (1 ≤ v)
+-- A controller that does not know the change, and is at no ballot, gets the home's proposal of m, and promises m or more.
+-- Not needed: that it is in the fast set, that the proposal came from the home itself, that v is above the clock.
 Allowed g i (answer j v) =
-    (g .fast j ≡ true) × (i .rows j .promise ≡ 0) × (i .rows j .bal ≡ 0) × (i .rows j .done ≡ false)
+    (i .rows j .promise ≡ 0) × (i .rows j .bal ≡ 0) × (i .rows j .done ≡ false)
     × ((m : ℕ) × (record { who = g .home; value = m } ∈ i .earlies) × (m ≤ v))
+-- The home has the answers of the whole fast set, at least f gave the greatest, and it is at no ballot.
+-- Not needed: that it has not committed, that each answer was new.
 Allowed g i (quick t) =
     (e : Gathered g i t) × (g .f ≤ count (givers g (e .gave) t) (g .r)) × (i .rows (g .home) .bal ≡ 0)
-    × (i .rows (g .home) .done ≡ false)
+-- The home has the answers of the whole fast set, is at no ballot, and has not committed.
+-- Not needed: that fewer than f gave the greatest.
 Allowed g i (slow t) =
     Gathered g i t × (i .rows (g .home) .bal ≡ 0) × (i .rows (g .home) .done ≡ false)
+-- The owner of b proposed t there; the controller has not committed, and is at no higher ballot.
+-- Not needed: that the proposal came from the owner itself, that the controller knows the change.
 Allowed g i (follow j b t) =
     (record { who = owner g b; ballot = b; value = t } ∈ i .acceptances) × (i .rows j .bal ≤ b)
     × (i .rows j .done ≡ false)
+-- A slow quorum accepted at b; the owner last accepted at b, and has not committed.
+-- Not needed: that the owner is at no higher ballot, that its own acceptance is among those counted, that each was new.
 Allowed g i (decide b) =
     Backing g i b × (1 ≤ b) × (i .rows (owner g b) .abal ≡ b) × (i .rows (owner g b) .done ≡ false)
+-- The controller knows the change, so it was entered; it has not committed, and is at a lower ballot.
+-- Not needed: that b is above r, that the owner of b asked.
 Allowed g i (join j b v) =
-    (1 ≤ i .rows (g .home) .promise) × (g .r < b) × (i .rows j .bal < b) × (i .rows j .done ≡ false) × (1 ≤ v)
+    (1 ≤ i .rows (g .home) .promise) × (i .rows j .bal < b) × (i .rows j .done ≡ false) × (1 ≤ v)
+-- The ballot is above r, and a take-over quorum replied; its owner is at it, has not accepted at it, and has not committed.
+-- Not needed: that its own reply is among those counted, that each was new, which one counts on equal ballots.
 Allowed g i (lead b t) =
     (g .r < b) × (q : Replied g i b) × Picked g q t × (i .rows (owner g b) .bal ≡ b)
     × (i .rows (owner g b) .abal ≢ b)
     × (i .rows (owner g b) .done ≡ false)
-Allowed g i (learn j t) = (t ∈ i .commits) × (i .rows j .done ≡ false)
+-- Somebody said a commit of t.
+-- Not needed: that the controller knows the change, that it has not committed.
+Allowed g i (learn j t) = t ∈ i .commits
 
 -- Each move of the list may be made where it stands.
 abbrev pub Legal : Group → Instant → List Move → Type 0
