@@ -14,7 +14,7 @@ use Rattle.agreement.proofs.Counting.{_∩_, _∪_, count-all, count-lt, count
 use Rattle.agreement.proofs.Invariant.{Proposal, Inv, Source, CommitOk}
 use Rattle.agreement.proofs.Invariant.Source.{from-slow, from-lead}
 use Rattle.agreement.proofs.Invariant.CommitOk.{by-quick, by-backing}
-use Rattle.agreement.proofs.Moves.{holds, home-reaches}
+use Rattle.agreement.proofs.Moves.{first-ok, run-keeps, home-reaches}
 
 or-either : (a b : Bool) → (a || b) ≡ true → (a ≡ true) ⊎ (b ≡ true)
 or-either true b e = inl refl
@@ -250,14 +250,17 @@ module _ {g : Group} {i : Instant} (inv : Inv g i) where
       go (yes l) = sym (backed-fixes b t p s c u l v)
       go (no l) = backed-fixes c u v w b t (omega arith) p
 
--- Whatever the moves, the group agrees.
+  -- At one instant the group agrees.
+  pub agreed : Agreed g i
+  agreed =
+      record {
+        one = λ t u p q. agree (inv .commits t p) (inv .commits u q);
+        majority = λ t p. commit-grounded (inv .commits t p) .0;
+        committed-promised = λ t p. commit-grounded (inv .commits t p) .1;
+        accepted-promised = λ j b t p. proposal-grounded b t (inv .acceptances _ p .proposed) .1;
+        done-said = λ j d. inv .rows j .done-said d;
+      }
+
+-- And so after any moves.
 pub one-timestamp : One-timestamp
-one-timestamp g ms l =
-    let inv = holds g ms l in
-    record {
-      one = λ t u p q. agree inv (inv .commits t p) (inv .commits u q);
-      majority = λ t p. commit-grounded inv (inv .commits t p) .0;
-      committed-promised = λ t p. commit-grounded inv (inv .commits t p) .1;
-      accepted-promised = λ j b t p. proposal-grounded inv b t (inv .acceptances _ p .proposed) .1;
-      done-said = λ j d. inv .rows j .done-said d;
-    }
+one-timestamp g ms l = agreed (run-keeps ms (first-ok g) l)

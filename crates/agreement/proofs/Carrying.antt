@@ -117,18 +117,18 @@ module _ (before : Stamped → Stamped → Bool) (o : Lawful before) where
   -- ---- what holds at every instant
 
   -- Two controllers that committed a change agree on it, and w's changes up to v's stable timestamp are committed at v.
-  record Two (v w : View) : Type 0 where
-    agree : (c : ℕ) → 1 ≤ v .stamp c → 1 ≤ w .stamp c → v .stamp c ≡ w .stamp c
-    complete : (c : ℕ) → 1 ≤ w .stamp c → w .stamp c ≤ v .stable → 1 ≤ v .stamp c
+  pub record Two (v w : View) : Type 0 where
+    pub agree : (c : ℕ) → 1 ≤ v .stamp c → 1 ≤ w .stamp c → v .stamp c ≡ w .stamp c
+    pub complete : (c : ℕ) → 1 ≤ w .stamp c → w .stamp c ≤ v .stable → 1 ≤ v .stamp c
 
-  record Lone (v : View) : Type 0 where
-    known : (x : Stamped) → x ∈ v .carried → (1 ≤ x .ts) × (v .stamp (x .change) ≡ x .ts) × (x .ts ≤ v .stable)
-    closed : (x : Stamped) → x ∈ v .carried → (c : ℕ) → 1 ≤ v .stamp c → before (stamped v c) x ≡ true → stamped v c ∈ v .carried
-    ascends : Ascends before (v .carried)
+  pub record Lone (v : View) : Type 0 where
+    pub known : (x : Stamped) → x ∈ v .carried → (1 ≤ x .ts) × (v .stamp (x .change) ≡ x .ts) × (x .ts ≤ v .stable)
+    pub closed : (x : Stamped) → x ∈ v .carried → (c : ℕ) → 1 ≤ v .stamp c → before (stamped v c) x ≡ true → stamped v c ∈ v .carried
+    pub ascends : Ascends before (v .carried)
 
-  record Inv (views : ℕ → View) : Type 0 where
-    two : (i k : ℕ) → Two (views i) (views k)
-    lone : (i : ℕ) → Lone (views i)
+  pub record Inv (views : ℕ → View) : Type 0 where
+    pub two : (i k : ℕ) → Two (views i) (views k)
+    pub lone : (i : ℕ) → Lone (views i)
 
   -- It is enough to look at the view that is put, by itself and beside the old ones.
   keeps : {views : ℕ → View} → Inv views → (i : ℕ) (v : View) → Lone v
@@ -243,7 +243,7 @@ module _ (before : Stamped → Stamped → Bool) (o : Lawful before) where
           go false true e f = absurd (new (old .closed y m c pos f))
           go false false e f = absurd (new (subst (λ (z : Stamped). z ∈ u .carried) (o .total y x e f) m))
 
-  step-keeps : {views : ℕ → View} → Inv views → (m : Step) → Allowed before views m → Inv (next views m)
+  pub step-keeps : {views : ℕ → View} → Inv views → (m : Step) → Allowed before views m → Inv (next views m)
   step-keeps inv (commit i c t) a = commit-keeps inv i c t a
   step-keeps inv (settle i s) a = settle-keeps inv i s a
   step-keeps inv (carry-out i c) a = carry-out-keeps inv i c a
@@ -252,7 +252,7 @@ module _ (before : Stamped → Stamped → Bool) (o : Lawful before) where
   run-keeps [] inv l = inv
   run-keeps (m ∷ ms) inv (a, l) = run-keeps ms (step-keeps inv m a) l
 
-  blank-ok : Inv blank
+  pub blank-ok : Inv blank
   blank-ok =
       record {
         two = λ i k. record { agree = λ _ _ _. refl; complete = λ _ p _. p };
@@ -273,16 +273,17 @@ module _ (before : Stamped → Stamped → Bool) (o : Lawful before) where
       subst (λ (z : Stamped). z ∈ views i .carried) is
       (inv .lone i .closed x m c here (subst (λ (z : Stamped). before z x ≡ true) (sym is) b))
 
+  pub alike : {views : ℕ → View} → Inv views → Alike before views
+  alike inv =
+      record {
+        ascends = λ i. inv .lone i .ascends;
+        beginnings =
+            λ i k. beginning _ _ (inv .lone i .ascends) (inv .lone k .ascends) (lists-closed inv i k) (lists-closed inv k i);
+        committed = λ i x m. let h = inv .lone i .known x m in (h .0, h .1);
+      }
+
 pub same-beginnings : Same-beginnings
-same-beginnings before o ms l =
-    let inv = run-keeps before o ms (blank-ok before o) l in
-    record {
-      ascends = λ i. inv .lone i .ascends;
-      beginnings =
-          λ i k. beginning before o _ _ (inv .lone i .ascends) (inv .lone k .ascends)
-          (lists-closed before o inv i k) (lists-closed before o inv k i);
-      committed = λ i x m. let h = inv .lone i .known x m in (h .0, h .1);
-    }
+same-beginnings before o ms l = alike before o (run-keeps before o ms (blank-ok before o) l)
 
 -- By timestamp, then by number, is such an order.
 pub lower-lawful : Lawful lower

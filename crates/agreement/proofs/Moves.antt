@@ -63,7 +63,7 @@ module _ {g : Group} {i : Instant} (inv : Inv g i) where
   -- ---- a promise
 
   -- A controller with no promise and at no ballot.
-  abbrev pub Idle : ℕ → Type 0
+  abbrev Idle : ℕ → Type 0
   Idle j = (i .rows j .promise ≡ 0) × (i .rows j .bal ≡ 0) × (i .rows j .done ≡ false)
 
   promise-grows : (j v : ℕ) (e : Bool) → Idle j → Grows (i .rows j) (promised (i .rows j) v e)
@@ -277,7 +277,7 @@ module _ {g : Group} {i : Instant} (inv : Inv g i) where
   pub home-reaches : (m : Acceptance) → m ∈ i .acceptances → m .ballot ≡ g .home → g .home ≤ i .rows (g .home) .abal
   home-reaches m p e = rw owner-home at (owner-reaches (g .home) m p e)
 
-  move-keeps : (m : Move) → Allowed g i m → Inv g (after g i m)
+  pub move-keeps : (m : Move) → Allowed g i m → Inv g (after g i m)
   move-keeps (enter v) (none, pos) =
       let h = inv .rows (g .home) .entered none in
       promise-early-keeps inv (g .home) v (none, h .0, h .1) pos
@@ -338,11 +338,11 @@ module _ {g : Group} {i : Instant} (inv : Inv g i) where
       let c = inv .commits t said in
       commit-keeps inv j t (entered-committed c) (λ ext. commit-survives ext t c)
 
-run-keeps : {g : Group} (ms : List Move) {i : Instant} → Inv g i → Legal g i ms → Inv g (outcome g i ms)
+pub run-keeps : {g : Group} (ms : List Move) {i : Instant} → Inv g i → Legal g i ms → Inv g (outcome g i ms)
 run-keeps [] inv l = inv
 run-keeps (m ∷ ms) inv (a, l) = run-keeps ms (move-keeps inv m a) l
 
-first-ok : (g : Group) → Inv g first
+pub first-ok : (g : Group) → Inv g first
 first-ok g =
     record {
       rows =
@@ -363,7 +363,3 @@ first-ok g =
       gap = λ m p. absurd p;
       one = λ m n p. absurd p;
     }
-
--- The invariant holds after any list of moves.
-pub holds : (g : Group) (ms : List Move) → Legal g first ms → Inv g (outcome g first ms)
-holds g ms l = run-keeps ms (first-ok g) l

@@ -15,29 +15,29 @@ use Rattle.agreement.proofs.Counting.{count-all, count-le, count-lt, meet}
 
 -- ---- the facts
 
-record BookOk (b : Book) : Type 0 where
-  own-low : (c : ℕ) → b .own c ≤ b .clock
-  detached-low : (u : ℕ) → b .detached u ≡ true → u ≤ b .clock
+pub record BookOk (b : Book) : Type 0 where
+  pub own-low : (c : ℕ) → b .own c ≤ b .clock
+  pub detached-low : (u : ℕ) → b .detached u ≡ true → u ≤ b .clock
   -- an own promise is not detached
-  apart : (c : ℕ) → 1 ≤ b .own c → b .detached (b .own c) ≡ false
+  pub apart : (c : ℕ) → 1 ≤ b .own c → b .detached (b .own c) ≡ false
   -- and is for one change
-  single : (c d : ℕ) → 1 ≤ b .own c → b .own c ≡ b .own d → c ≡ d
+  pub single : (c d : ℕ) → 1 ≤ b .own c → b .own c ≡ b .own d → c ≡ d
 
 -- What i may know that j promised: detached ones, and those for changes that are committed at i.
-abbrev Evidence : Instant → ℕ → ℕ → ℕ → Type 0
+abbrev pub Evidence : Instant → ℕ → ℕ → ℕ → Type 0
 Evidence x i j u =
     (x .books j .detached u ≡ true) ⊎ ((c : ℕ) × (1 ≤ x .books i .stamp c) × (1 ≤ u) × (x .books j .own c ≡ u))
 
-record ToldOk (x : Instant) (m : Told) : Type 0 where
-  detached : (u : ℕ) → m .detached u ≡ true → x .books (m .who) .detached u ≡ true
-  own : (c : ℕ) → 1 ≤ m .own c → x .books (m .who) .own c ≡ m .own c
+pub record ToldOk (x : Instant) (m : Told) : Type 0 where
+  pub detached : (u : ℕ) → m .detached u ≡ true → x .books (m .who) .detached u ≡ true
+  pub own : (c : ℕ) → 1 ≤ m .own c → x .books (m .who) .own c ≡ m .own c
 
-record Inv (r n : ℕ) (x : Instant) : Type 0 where
-  books : (j : ℕ) → BookOk (x .books j)
-  known : (i j u : ℕ) → x .books i .known j u ≡ true → Evidence x i j u
-  told : (m : Told) → m ∈ x .told → ToldOk x m
-  grounded : (i c : ℕ) → 1 ≤ x .books i .stamp c → Majority-below r x c (x .books i .stamp c)
-  counted : (j : ℕ) → 1 ≤ j → j ≤ r → x .books j .clock ≤ made r x n
+pub record Inv (r n : ℕ) (x : Instant) : Type 0 where
+  pub books : (j : ℕ) → BookOk (x .books j)
+  pub known : (i j u : ℕ) → x .books i .known j u ≡ true → Evidence x i j u
+  pub told : (m : Told) → m ∈ x .told → ToldOk x m
+  pub grounded : (i c : ℕ) → 1 ≤ x .books i .stamp c → Majority-below r x c (x .books i .stamp c)
+  pub counted : (j : ℕ) → 1 ≤ j → j ≤ r → x .books j .clock ≤ made r x n
 
 -- ---- growth
 
@@ -264,7 +264,7 @@ module _ {r n : ℕ} {x : Instant} (inv : Inv r n x) where
       (put-each (a .stamp) c t (λ d n. 1 ≤ n → Majority-below r x d n) (λ _. promised) (inv .grounded i))
       (same-clock (commit i c t) refl)
 
-  move-keeps : (m : Move) → Allowed r n x m → Inv r n (after x m)
+  pub move-keeps : (m : Move) → Allowed r n x m → Inv r n (after x m)
   move-keeps (promise j c t) h = promise-keeps j c t h
   move-keeps (bump j t) h = bump-keeps j t h
   move-keeps (tell j) h = tell-keeps j
@@ -290,7 +290,7 @@ module _ {r n : ℕ} {x : Instant} (inv : Inv r n x) where
       let h = made-all r x n in
       omega arith
 
-  sound : Sound r n x
+  pub sound : Sound r n x
   sound =
       record {
         complete = λ i s known k c p l. nothing-left i s c _ known (inv .grounded k c p) l;
@@ -310,7 +310,7 @@ run-keeps : {r n : ℕ} (ms : List Move) {x : Instant} → Inv r n x → Legal r
 run-keeps [] inv l = inv
 run-keeps (m ∷ ms) inv (a, l) = run-keeps ms (move-keeps inv m a) l
 
-first-ok : (r n : ℕ) → Inv r n first
+pub first-ok : (r n : ℕ) → Inv r n first
 first-ok r n =
     record {
       books =
