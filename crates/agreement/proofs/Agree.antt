@@ -7,14 +7,16 @@ use Prim.Native.Nat.{ℕ, zero, suc, _+_, _-_, _*_, _/_, _≤_, _<_}
 use native.Mathlib.Decide.{ℕ-discrete, decLe}
 use native.Mathlib.Omega.{arith}
 use lib.Dec.{eqb, eqb→eq, eqb-refl, T}
-use Rattle.agreement.specs.Sets.{Set, count, Among, majority, _∈_}
-use Rattle.agreement.specs.OneChange.{Group, Acceptance, Reply, Instant, owner, Gathered, givers, Replied, fast-repliers, Picked, Backing, Majority-below, Promised, Agreed, Move, Legal, outcome, first, One-timestamp}
+use Rattle.agreement.specs.Sets.{Set, count, Among, majority}
+use Rattle.agreement.specs.Runs.{_∈_}
+use Rattle.agreement.specs.OneChange.{Group, Acceptance, Reply, Instant, owner, Gathered, givers, Replied, fast-repliers, Picked, Backing, Majority-below, Promised, Agreed, Allowed, after, first, One-timestamp}
 use Rattle.agreement.specs.OneChange.Picked.{by-ballot, by-all, by-fast}
+use Rattle.agreement.proofs.Tables.{clash, run-keeps}
 use Rattle.agreement.proofs.Counting.{_∩_, _∪_, count-all, count-lt, count-two, share, and-both, meet}
 use Rattle.agreement.proofs.Invariant.{Proposal, Inv, Source, CommitOk}
 use Rattle.agreement.proofs.Invariant.Source.{from-slow, from-lead}
 use Rattle.agreement.proofs.Invariant.CommitOk.{by-quick, by-backing}
-use Rattle.agreement.proofs.Moves.{first-ok, run-keeps, home-reaches}
+use Rattle.agreement.proofs.Moves.{first-ok, move-keeps, home-reaches}
 
 or-either : (a b : Bool) → (a || b) ≡ true → (a ≡ true) ⊎ (b ≡ true)
 or-either true b e = inl refl
@@ -263,4 +265,5 @@ module _ {g : Group} {i : Instant} (inv : Inv g i) where
 
 -- And so after any moves.
 pub one-timestamp : One-timestamp
-one-timestamp g ms l = agreed (run-keeps ms (first-ok g) l)
+one-timestamp g ms l =
+    agreed (run-keeps (Allowed g) (after g) (Inv g) (λ i m inv. move-keeps inv m) ms first (first-ok g) l)

@@ -7,10 +7,10 @@ use Prim.Native.Nat.{ℕ, _≤_, _<_}
 use native.Mathlib.Decide.{ℕ-discrete, decLe}
 use native.Mathlib.Omega.{arith}
 use lib.Dec.{eqb, ltb}
-use Rattle.agreement.specs.Sets.{_∈_, put}
-use Rattle.agreement.specs.Order.{Stamped, entry, Lawful, lower, View, blank, stamped, Step, next, Due, Allowed, Legal, outcome, Ascends, Begins, Alike, Same-beginnings}
+use Rattle.agreement.specs.Runs.{_∈_, put}
+use Rattle.agreement.specs.Order.{Stamped, entry, Lawful, lower, View, blank, stamped, Step, next, Due, Allowed, Ascends, Begins, Alike, Same-beginnings}
 use Rattle.agreement.specs.Order.Step.{commit, settle, carry-out}
-use Rattle.agreement.proofs.Tables.{clash, each, put-each}
+use Rattle.agreement.proofs.Tables.{clash, each, put-each, run-keeps}
 
 -- ---- lists
 
@@ -248,10 +248,6 @@ module _ (before : Stamped → Stamped → Bool) (o : Lawful before) where
   step-keeps inv (settle i s) a = settle-keeps inv i s a
   step-keeps inv (carry-out i c) a = carry-out-keeps inv i c a
 
-  run-keeps : (ms : List Step) {views : ℕ → View} → Inv views → Legal before views ms → Inv (outcome views ms)
-  run-keeps [] inv l = inv
-  run-keeps (m ∷ ms) inv (a, l) = run-keeps ms (step-keeps inv m a) l
-
   pub blank-ok : Inv blank
   blank-ok =
       record {
@@ -283,7 +279,9 @@ module _ (before : Stamped → Stamped → Bool) (o : Lawful before) where
       }
 
 pub same-beginnings : Same-beginnings
-same-beginnings before o ms l = alike before o (run-keeps before o ms (blank-ok before o) l)
+same-beginnings before o ms l =
+    alike before o
+    (run-keeps (Allowed before) next (Inv before o) (λ views m inv. step-keeps before o inv m) ms blank (blank-ok before o) l)
 
 -- By timestamp, then by number, is such an order.
 pub lower-lawful : Lawful lower

@@ -5,7 +5,8 @@ use mathlib.Core.List.{List, [], _∷_}
 use mathlib.Core.Logic.{_⊎_, inl, inr}
 use Prim.Native.Nat.{ℕ, zero, suc, _+_, _≤_, _<_}
 use native.Mathlib.Omega.{arith}
-use Rattle.agreement.specs.Sets.{count, Among, _∈_}
+use Rattle.agreement.specs.Sets.{count}
+use Rattle.agreement.specs.Runs.{_∈_}
 use Rattle.agreement.specs.OneChange.{Group, Row, Early, Acceptance, Reply, Instant, owner, Gathered, givers, Replied, Picked, Backing}
 use Rattle.agreement.specs.OneChange.Picked.{by-ballot, by-all, by-fast}
 

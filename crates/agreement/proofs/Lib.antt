@@ -4,6 +4,6 @@ pub mod Carrying
 pub mod Counting
 pub mod Invariant
 pub mod Moves
-pub mod Runs
+pub mod Samples
 pub mod Stability
 pub mod Tables

@@ -7,8 +7,8 @@ use Prim.Native.Nat.{ℕ, zero, suc, _+_, _-_, _%_, _≤_, _<_}
 use native.Mathlib.Nat.{mod-eq-of-lt}
 use native.Mathlib.Omega.{arith}
 use lib.Dec.{eqb, eqb→eq, eqb-refl, T}
-use Rattle.agreement.specs.Sets.{Among, _∈_, put}
-use Rattle.agreement.specs.OneChange.{Group, Row, Early, Acceptance, Reply, Instant, owner, promised, promise-early, promise-late, join-at, accept-at, commit-at, ready, Gathered, Move, after, Allowed, Legal, outcome, first}
+use Rattle.agreement.specs.Runs.{_∈_, put}
+use Rattle.agreement.specs.OneChange.{Group, Row, Early, Acceptance, Reply, Instant, owner, promised, promise-early, promise-late, join-at, accept-at, commit-at, ready, Gathered, Move, after, Allowed, first}
 use Rattle.agreement.specs.OneChange.Move.{enter, answer, quick, slow, follow, decide, join, lead, learn}
 use Rattle.agreement.proofs.Tables.{clash, one-more, either, each, put-each, at-put}
 use Rattle.agreement.proofs.Invariant.{Proposal, RowOk, EarlyOk, AcceptanceOk, ReplyOk, CommitOk, Source, Gap, One, Inv, Grows, _⊑_, grows-same, row-survives, early-survives, gathered-survives, source-survives, acceptance-survives, reply-survives, commit-survives}
@@ -337,10 +337,6 @@ module _ {g : Group} {i : Instant} (inv : Inv g i) where
   move-keeps (learn j t) said =
       let c = inv .commits t said in
       commit-keeps inv j t (entered-committed c) (λ ext. commit-survives ext t c)
-
-pub run-keeps : {g : Group} (ms : List Move) {i : Instant} → Inv g i → Legal g i ms → Inv g (outcome g i ms)
-run-keeps [] inv l = inv
-run-keeps (m ∷ ms) inv (a, l) = run-keeps ms (move-keeps inv m a) l
 
 pub first-ok : (g : Group) → Inv g first
 first-ok g =

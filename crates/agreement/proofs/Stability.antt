@@ -7,10 +7,11 @@ use Prim.Native.Nat.{ℕ, zero, suc, _+_, _*_, _≤_, _<_}
 use native.Mathlib.Decide.{ℕ-discrete, decLe}
 use native.Mathlib.Omega.{arith}
 use lib.Dec.{ltb, leb}
-use Rattle.agreement.specs.Sets.{Set, count, Among, majority, _∈_, put}
-use Rattle.agreement.specs.Promises.{Book, Told, Instant, first, Move, with-between, changed, actor, telling, after, Majority-below, Reached, Allowed, Legal, outcome, Stable, made, Sound, Nothing-below}
+use Rattle.agreement.specs.Sets.{Set, count, Among, majority}
+use Rattle.agreement.specs.Runs.{_∈_, put}
+use Rattle.agreement.specs.Promises.{Book, Told, Instant, first, Move, with-between, changed, actor, telling, after, Majority-below, Reached, Allowed, Stable, made, Sound, Nothing-below}
 use Rattle.agreement.specs.Promises.Move.{promise, bump, tell, hear, commit}
-use Rattle.agreement.proofs.Tables.{clash, either, one-more, put-each, at-put}
+use Rattle.agreement.proofs.Tables.{clash, either, one-more, put-each, at-put, run-keeps}
 use Rattle.agreement.proofs.Counting.{count-all, count-le, count-lt, meet}
 
 -- ---- the facts
@@ -306,10 +307,6 @@ module _ {r n : ℕ} {x : Instant} (inv : Inv r n x) where
           absurd (omega arith)
       above i c t _ s known (no l) = omega arith
 
-run-keeps : {r n : ℕ} (ms : List Move) {x : Instant} → Inv r n x → Legal r n x ms → Inv r n (outcome x ms)
-run-keeps [] inv l = inv
-run-keeps (m ∷ ms) inv (a, l) = run-keeps ms (move-keeps inv m a) l
-
 pub first-ok : (r n : ℕ) → Inv r n first
 first-ok r n =
     record {
@@ -328,4 +325,5 @@ first-ok r n =
     }
 
 pub nothing-below : Nothing-below
-nothing-below r n ms l = sound (run-keeps ms (first-ok r n) l)
+nothing-below r n ms l =
+    sound (run-keeps (Allowed r n) after (Inv r n) (λ x m inv. move-keeps inv m) ms first (first-ok r n) l)

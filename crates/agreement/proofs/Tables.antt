@@ -1,4 +1,4 @@
--- Lists with one more entry, and tables with one place put.
+-- Lists with one more entry, tables with one place put, and what a run keeps.
 use mathlib.Core.Path.{_≡_, refl, sym, subst}
 use mathlib.Core.Bool.{Bool, true, false, cond}
 use mathlib.Core.List.{List, [], _∷_}
@@ -6,7 +6,7 @@ use mathlib.Core.Logic.{_⊎_, inl, inr}
 use Prim.Native.Nat.{ℕ}
 use native.Mathlib.Omega.{arith}
 use lib.Dec.{eqb, eqb→eq, eqb-refl, T}
-use Rattle.agreement.specs.Sets.{_∈_, put}
+use Rattle.agreement.specs.Runs.{_∈_, put, Legal, outcome}
 
 pub clash : {A : Type 0} {b : Bool} → b ≡ true → b ≡ false → A
 clash p q =
@@ -42,3 +42,11 @@ module _ {A : Type 0} (table : ℕ → A) (j : ℕ) (x : A) where
       go : (b : Bool) → T b → P (cond b x (table j))
       go true t = h
       go false t = absurd t
+
+-- What holds at first and is kept by every move holds after a run.
+pub run-keeps : {S M : Type 0} (Allowed : S → M → Type 0) (after : S → M → S) (Inv : S → Type 0)
+    → ((s : S) (m : M) → Inv s → Allowed s m → Inv (after s m))
+    → (ms : List M) (s : S) → Inv s → Legal Allowed after s ms → Inv (outcome after s ms)
+run-keeps Allowed after Inv step [] s inv l = inv
+run-keeps Allowed after Inv step (m ∷ ms) s inv (a, l) =
+    run-keeps Allowed after Inv step ms (after s m) (step s m inv a) l

@@ -6,7 +6,8 @@ use mathlib.Core.List.{List, [], _∷_}
 use mathlib.Core.Logic.{_⊎_, inl, inr, _≢_}
 use Prim.Native.Nat.{ℕ, _+_, _-_, _*_, _%_, _≤_, _<_}
 use lib.Dec.{eqb}
-use Rattle.agreement.specs.Sets.{Set, count, Among, majority, fast-quorum, slow-quorum, take-over-quorum, _∈_, put}
+use Rattle.agreement.specs.Sets.{Set, count, Among, majority, fast-quorum, slow-quorum, take-over-quorum}
+use Rattle.agreement.specs.Runs.{_∈_, put, Legal, outcome}
 
 -- A group of r controllers that tolerates f silent ones, and one change: its home and its fast set.
 pub record Group : Type 0 where
@@ -287,15 +288,6 @@ Allowed g i (lead b t) =
 -- Not needed: that the controller knows the change, that it has not committed.
 Allowed g i (learn j t) = t ∈ i .commits
 
--- Each move of the list may be made where it stands.
-abbrev pub Legal : Group → Instant → List Move → Type 0
-Legal g i [] = Unit {0}
-Legal g i (m ∷ ms) = Allowed g i m × Legal g (after g i m) ms
-
-abbrev pub outcome : Group → Instant → List Move → Instant
-outcome g i [] = i
-outcome g i (m ∷ ms) = outcome g (after g i m) ms
-
 -- ---- the law
 
 -- A majority of the controllers has a promise between 1 and t.
@@ -322,4 +314,5 @@ pub record Agreed (g : Group) (i : Instant) : Type 0 where
 
 -- Whatever the group does about a change, it agrees on one timestamp.
 abbrev pub One-timestamp : Type 0
-One-timestamp = (g : Group) (ms : List Move) → Legal g first ms → Agreed g (outcome g first ms)
+One-timestamp =
+    (g : Group) (ms : List Move) → Legal (Allowed g) (after g) first ms → Agreed g (outcome (after g) first ms)

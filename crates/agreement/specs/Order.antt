@@ -6,7 +6,7 @@ use mathlib.Core.List.{List, [], _∷_, _++_}
 use mathlib.Core.Logic.{_⊎_}
 use Prim.Native.Nat.{ℕ, _≤_, _<_}
 use lib.Dec.{eqb, ltb}
-use Rattle.agreement.specs.Sets.{_∈_, put}
+use Rattle.agreement.specs.Runs.{_∈_, put, Legal, outcome}
 
 -- A change, by its number, with its timestamp.
 pub record Stamped : Type 0 where
@@ -82,14 +82,6 @@ Allowed before views (carry-out i c) =
     Due (views i) c
     × ((d : ℕ) → Due (views i) d → before (stamped (views i) d) (stamped (views i) c) ≡ false)
 
-abbrev pub Legal : (Stamped → Stamped → Bool) → (ℕ → View) → List Step → Type 0
-Legal before views [] = Unit {0}
-Legal before views (m ∷ ms) = Allowed before views m × Legal before (next views m) ms
-
-abbrev pub outcome : (ℕ → View) → List Step → ℕ → View
-outcome views [] = views
-outcome views (m ∷ ms) = outcome (next views m) ms
-
 -- Each entry comes before all later ones.
 abbrev pub Ascends : (Stamped → Stamped → Bool) → List Stamped → Type 0
 Ascends before [] = Unit {0}
@@ -111,5 +103,5 @@ pub record Alike (before : Stamped → Stamped → Bool) (views : ℕ → View) 
 -- Whatever the controllers do, and in whatever such order they carry out, their lists are beginnings of one another.
 abbrev pub Same-beginnings : Type 0
 Same-beginnings =
-    (before : Stamped → Stamped → Bool) → Lawful before → (ms : List Step) → Legal before blank ms
-    → Alike before (outcome blank ms)
+    (before : Stamped → Stamped → Bool) → Lawful before → (ms : List Step) → Legal (Allowed before) next blank ms
+    → Alike before (outcome next blank ms)

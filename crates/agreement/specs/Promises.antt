@@ -6,7 +6,8 @@ use mathlib.Core.List.{List, [], _∷_}
 use mathlib.Core.Logic.{_⊎_}
 use Prim.Native.Nat.{ℕ, zero, suc, _+_, _*_, _≤_, _<_}
 use lib.Dec.{ltb, leb}
-use Rattle.agreement.specs.Sets.{Set, count, Among, majority, _∈_, put}
+use Rattle.agreement.specs.Sets.{Set, count, Among, majority}
+use Rattle.agreement.specs.Runs.{_∈_, put, Legal, outcome}
 
 -- What a controller holds.
 pub record Book : Type 0 where
@@ -148,14 +149,6 @@ Allowed r n x (hear i j u) =
 -- Committed once, and a majority promised the change up to t.
 Allowed r n x (commit i c t) = (x .books i .stamp c ≡ 0) × Majority-below r x c t
 
-abbrev pub Legal : ℕ → ℕ → Instant → List Move → Type 0
-Legal r n x [] = Unit {0}
-Legal r n x (m ∷ ms) = Allowed r n x m × Legal r n (after x m) ms
-
-abbrev pub outcome : Instant → List Move → Instant
-outcome x [] = x
-outcome x (m ∷ ms) = outcome (after x m) ms
-
 -- Controller i knows the promises 1 to s of a majority.
 abbrev pub Stable : ℕ → Instant → ℕ → ℕ → Type 0
 Stable r x i s =
@@ -183,4 +176,4 @@ pub record Sound (r n : ℕ) (x : Instant) : Type 0 where
 
 -- Whatever the group does, up to a stable timestamp nothing is left to come.
 abbrev pub Nothing-below : Type 0
-Nothing-below = (r n : ℕ) (ms : List Move) → Legal r n first ms → Sound r n (outcome first ms)
+Nothing-below = (r n : ℕ) (ms : List Move) → Legal (Allowed r n) after first ms → Sound r n (outcome after first ms)

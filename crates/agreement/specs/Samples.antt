@@ -2,8 +2,8 @@
 use mathlib.Core.Path.{_≡_}
 use mathlib.Core.List.{List, [], _∷_}
 use Prim.Native.Nat.{ℕ, _≤_}
-use Rattle.agreement.specs.Sets.{_∈_}
-use Rattle.agreement.specs.OneChange.{Group, Instant, Replied, Picked, Move, Allowed, Legal, first, after, outcome}
+use Rattle.agreement.specs.Runs.{Legal, outcome}
+use Rattle.agreement.specs.OneChange.{Group, Instant, Replied, Picked, Move, Allowed, first, after}
 use Rattle.agreement.specs.OneChange.Move.{enter, answer, quick, slow, follow, decide, join, lead, learn}
 use Rattle.agreement.specs.OneChange.Picked.{by-ballot, by-all, by-fast}
 use Rattle.agreement.specs.Order as order
@@ -16,7 +16,7 @@ use Rattle.agreement.specs.Promises.Move.{promise, tell, hear, commit as commi
 -- The moves may be made one after the other, and t is committed.
 abbrev pub Commits : List Move → ℕ → Type 0
 Commits ms t =
-    (g : Group) × (g .r ≡ 5) × (g .f ≡ 2) × Legal g first ms × (outcome g first ms .commits ≡ t ∷ [])
+    (g : Group) × (g .r ≡ 5) × (g .f ≡ 2) × Legal (Allowed g) (after g) first ms × (outcome (after g) first ms .commits ≡ t ∷ [])
 
 pub data Way : Type 0 where
   of-greatest-ballot : Way
@@ -31,10 +31,10 @@ way (by-fast _ _ _ _) = of-fast-set
 -- After the first moves the owner of b chooses t in the way w, and after the last ones t is committed.
 abbrev pub Takes-over : Way → List Move → (b t : ℕ) → List Move → Type 0
 Takes-over w ms b t rest =
-    (g : Group) × (g .r ≡ 5) × (g .f ≡ 2) × Legal g first ms
-    × (choice : Allowed g (outcome g first ms) (lead b t)) × (way (choice .2) ≡ w)
-    × Legal g (after g (outcome g first ms) (lead b t)) rest
-    × (outcome g (after g (outcome g first ms) (lead b t)) rest .commits ≡ t ∷ [])
+    (g : Group) × (g .r ≡ 5) × (g .f ≡ 2) × Legal (Allowed g) (after g) first ms
+    × (choice : Allowed g (outcome (after g) first ms) (lead b t)) × (way (choice .2) ≡ w)
+    × Legal (Allowed g) (after g) (after g (outcome (after g) first ms) (lead b t)) rest
+    × (outcome (after g) (after g (outcome (after g) first ms) (lead b t)) rest .commits ≡ t ∷ [])
 
 -- Promises 6, 7 and 11, then 11 once more: enough gave the greatest.
 abbrev pub fast-run : List Move
@@ -72,8 +72,8 @@ two-changes t = commit 1 2 t ∷ commit 1 1 t ∷ settle 1 t ∷ carry-out 1 1 �
 
 abbrev pub Carries-out-two : ℕ → Type 0
 Carries-out-two t =
-    order.Legal order.lower order.blank (two-changes t)
-    × (order.outcome order.blank (two-changes t) 1 .carried ≡ order.entry t 1 ∷ order.entry t 2 ∷ [])
+    Legal (order.Allowed order.lower) order.next order.blank (two-changes t)
+    × (outcome order.next order.blank (two-changes t) 1 .carried ≡ order.entry t 1 ∷ order.entry t 2 ∷ [])
 
 -- ---- promises: five controllers and one change
 
@@ -87,7 +87,7 @@ heard =
 -- At controller 4 timestamp 1 is stable.
 abbrev pub Settles : Type 0
 Settles =
-    promises.Legal 5 1 promises.first heard × promises.Stable 5 (promises.outcome promises.first heard) 4 1
+    Legal (promises.Allowed 5 1) promises.after promises.first heard × promises.Stable 5 (outcome promises.after promises.first heard) 4 1
 
 -- ---- all samples, over the timestamp t that they commit
 

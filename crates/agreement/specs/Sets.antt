@@ -1,13 +1,10 @@
--- Sets of controllers as truth-valued functions, how many members they have, and the quorums of a group; lists and tables.
+-- Sets of controllers as truth-valued functions, how many members they have, and the quorums of a group.
 use mathlib.Core.Path.{_≡_}
-use mathlib.Core.Bool.{Bool, true, false, cond, _&&_, _||_}
-use mathlib.Core.List.{List, [], _∷_}
-use mathlib.Core.Logic.{_⊎_, inl, inr}
+use mathlib.Core.Bool.{Bool, true, cond}
 use Prim.Native.Nat.{ℕ, zero, suc, _+_, _-_, _/_, _%_, _^_, _≤_, _<_}
 use lib.Count.{ones}
 use lib.Dec.{eqb}
 
-infixr 60 _∈_
 abbrev pub Set : Type 0
 Set = ℕ → Bool
 
@@ -43,12 +40,3 @@ slow-quorum f = f + 1
 -- So many replies let the owner of a ballot choose.
 abbrev pub take-over-quorum : ℕ → ℕ → ℕ
 take-over-quorum r f = r - f
-
--- x is an entry of the list.
-abbrev pub _∈_ : {A : Type 0} → A → List A → Type 0
-x ∈ [] = ⊥
-x ∈ (y ∷ ys) = (y ≡ x) ⊎ (x ∈ ys)
-
--- The table with x at place j.
-abbrev pub put : {A : Type 0} → (ℕ → A) → ℕ → A → ℕ → A
-put table j x k = cond (eqb j k) x (table k)

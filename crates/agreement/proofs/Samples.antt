@@ -6,8 +6,9 @@ use mathlib.Core.Logic.{_⊎_, inl, inr}
 use Prim.Native.Nat.{ℕ, zero, suc, _≤_, _<_}
 use native.Mathlib.Omega.{arith}
 use lib.Dec.{leb, lit≤, lit<}
-use Rattle.agreement.specs.Sets.{Set, count, bits, Among, _∈_}
-use Rattle.agreement.specs.OneChange.{Group, Instant, Gathered, Backing, Replied, Picked, Move, Allowed, Legal, first, after, outcome}
+use Rattle.agreement.specs.Sets.{Set, count, bits, Among}
+use Rattle.agreement.specs.Runs.{_∈_, Legal, outcome}
+use Rattle.agreement.specs.OneChange.{Group, Instant, Gathered, Backing, Replied, Picked, Move, Allowed, first, after}
 use Rattle.agreement.specs.OneChange.Move.{enter, answer, quick, slow, follow, decide, join, lead, learn}
 use Rattle.agreement.specs.OneChange.Picked.{by-ballot, by-all, by-fast}
 use Rattle.agreement.specs.Order.{View, Stamped, entry, lower, blank}
@@ -62,9 +63,9 @@ abbrev asked : ℕ → List Move → List Move
 asked v rest = enter 6 ∷ answer 2 7 ∷ answer 3 11 ∷ answer 4 v ∷ rest
 
 abbrev promised : ℕ → Instant
-promised v = outcome five first (asked v [])
+promised v = outcome (after five) first (asked v [])
 
-asked-legal : (v : ℕ) → 6 ≤ v → (rest : List Move) → Legal five (promised v) rest → Legal five first (asked v rest)
+asked-legal : (v : ℕ) → 6 ≤ v → (rest : List Move) → Legal (Allowed five) (after five) (promised v) rest → Legal (Allowed five) (after five) first (asked v rest)
 asked-legal v l rest legal =
     (refl, lit≤ tt)
     then (refl, refl, refl, (6, inl refl, lit≤ tt))
@@ -110,7 +111,7 @@ slow-path = (
   refl,
 )
   where
-    backing : Backing five (outcome five first (asked 6 (slow 11 ∷ follow 2 1 11 ∷ follow 5 1 11 ∷ []))) 1
+    backing : Backing five (outcome (after five) first (asked 6 (slow 11 ∷ follow 2 1 11 ∷ follow 5 1 11 ∷ []))) 1
     backing = (
       bits 19,
       lit≤ tt,
@@ -122,12 +123,12 @@ slow-path = (
 -- Once 5 has chosen 11, controllers 3 and 4 accept it and 5 commits.
 seen : (i : Instant) → i .rows 3 .bal ≤ 10 → i .rows 3 .done ≡ false → i .rows 4 .bal ≤ 10 → i .rows 4 .done ≡ false
     → i .rows 5 .done ≡ false
-    → Legal five (after five i (lead 10 11)) seen-through
+    → Legal (Allowed five) (after five) (after five i (lead 10 11)) seen-through
 unfolding count
 seen i l3 d3 l4 d4 d5 =
     (inl refl, l3, d3) then (inr (inl refl), l4, d4) then (backing, lit≤ tt, refl, d5) then tt
   where
-    backing : Backing five (outcome five (after five i (lead 10 11)) (follow 3 10 11 ∷ follow 4 10 11 ∷ [])) 10
+    backing : Backing five (outcome (after five) (after five i (lead 10 11)) (follow 3 10 11 ∷ follow 4 10 11 ∷ [])) 10
     backing = (
       bits 28,
       lit≤ tt,
@@ -169,7 +170,7 @@ greatest-ballot = (
 )
   where
     i : Instant
-    i = outcome five first accepted-before
+    i = outcome (after five) first accepted-before
 
     replied : Replied five i 10
     replied = from-rows i 26 (lit≤ tt) (each-of _ _ out (λ _. inr (inl refl)) out (λ _. inl refl) (λ _. inr (inr (inl refl))))
@@ -199,7 +200,7 @@ all = (
 )
   where
     i : Instant
-    i = outcome five first home-replies
+    i = outcome (after five) first home-replies
 
     replied : Replied five i 10
     replied = from-rows i 21 (lit≤ tt) (each-of _ _ (λ _. inr (inl refl)) out (λ _. inl refl) out (λ _. inr (inr (inl refl))))
@@ -231,7 +232,7 @@ fast-set = (
 )
   where
     i : Instant
-    i = outcome five first home-silent
+    i = outcome (after five) first home-silent
 
     replied : Replied five i 10
     replied = from-rows i 28 (lit≤ tt) (each-of _ _ out out (λ _. inr (inl refl)) (λ _. inl refl) (λ _. inr (inr (inl refl))))
