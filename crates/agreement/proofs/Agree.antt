@@ -1,41 +1,21 @@
 -- The argument on one instant: from the invariant alone, with no step in sight.
 use mathlib.Core.Path.{_≡_, refl, sym, subst, _∙_, ap}
-use mathlib.Core.Bool.{Bool, true, false, cond, _&&_, _||_}
-use mathlib.Core.List.{List}
+use mathlib.Core.Bool.{true, _||_}
 use mathlib.Core.Logic.{_⊎_, inl, inr, _≢_}
-use Prim.Native.Nat.{ℕ, zero, suc, _+_, _-_, _*_, _/_, _≤_, _<_}
+use Prim.Native.Nat.{ℕ, zero, suc, _≤_, _<_}
 use native.Mathlib.Decide.{ℕ-discrete, decLe}
 use native.Mathlib.Omega.{arith}
-use lib.Dec.{eqb, eqb→eq, eqb-refl, T}
+use lib.Dec.{eqb, eqb-refl}
 use Rattle.agreement.specs.Sets.{Set, count, Among, majority}
-use Rattle.agreement.specs.Runs.{_∈_}
-use Rattle.agreement.specs.OneChange.{Group, Acceptance, Reply, Instant, owner, Gathered, givers, Replied, fast-repliers, Picked, Backing, Majority-below, Promised, Agreed, Allowed, after, first, One-timestamp}
+use Rattle.agreement.specs.OneChange.{Group, Instant, Gathered, givers, Replied, fast-repliers, Picked, Backing, Majority-below, Promised, Agreed, Allowed, after, first, One-timestamp}
 use Rattle.agreement.specs.OneChange.Picked.{by-ballot, by-all, by-fast}
-use Rattle.agreement.proofs.Tables.{clash, run-keeps}
-use Rattle.agreement.proofs.Counting.{_∩_, _∪_, count-all, count-lt, count-two, share, and-both, meet}
+use Rattle.agreement.proofs.Tables.{run-keeps}
+use Rattle.agreement.proofs.Counting.{_∪_, count-all, count-lt, count-two, share, meet}
+use Rattle.agreement.proofs.Truth.{clash, not-true, is-true, and-both, or-either, or-left, or-right, same-number}
 use Rattle.agreement.proofs.Invariant.{Proposal, Inv, Source, CommitOk}
 use Rattle.agreement.proofs.Invariant.Source.{from-slow, from-lead}
 use Rattle.agreement.proofs.Invariant.CommitOk.{by-quick, by-backing}
 use Rattle.agreement.proofs.Moves.{first-ok, move-keeps, home-reaches}
-
-or-either : (a b : Bool) → (a || b) ≡ true → (a ≡ true) ⊎ (b ≡ true)
-or-either true b e = inl refl
-or-either false b e = inr e
-
-or-left : (a b : Bool) → a ≡ true → (a || b) ≡ true
-or-left true b e = refl
-or-left false b e = let z : _≡_ {A = ℕ} 0 1 = cc in absurd (omega arith)
-
-or-right : (a b : Bool) → b ≡ true → (a || b) ≡ true
-or-right true b e = refl
-or-right false b e = e
-
-is-true : (b : Bool) → T b → b ≡ true
-is-true true t = refl
-is-true false t = absurd t
-
-same-number : (m n : ℕ) → eqb m n ≡ true → m ≡ n
-same-number m n e = eqb→eq m n (subst T (sym e) tt)
 
 -- Strong induction.
 below : (P : ℕ → Type 0) → ((c : ℕ) → ((a : ℕ) → a < c → P a) → P c) → (c : ℕ) → P c
@@ -129,12 +109,8 @@ module _ {g : Group} {i : Instant} (inv : Inv g i) where
         count-lt (fast-repliers g q) (with-home q) (g .r) (g .home)
             (λ j m. or-left (fast-repliers g q j) (eqb j (g .home)) (m .2))
             (g .home-first, g .home-last, or-right (fast-repliers g q (g .home)) _ (is-true _ (eqb-refl (g .home))))
-            (silent (fast-repliers g q (g .home)) (λ e. away (g .home) (g .home-first, g .home-last, e) refl)),
+            (not-true (fast-repliers g q (g .home)) (λ e. away (g .home) (g .home-first, g .home-last, e) refl)),
       )
-    where
-      silent : (b : Bool) → (b ≡ true → ⊥) → b ≡ false
-      silent true h = absurd (h refl)
-      silent false h = refl
 
   -- What is chosen from the fast set alone is no less than the promise of any replier there, nor than the home's.
   bounded : {b u : ℕ} (q : Replied g i b)
@@ -179,8 +155,7 @@ module _ {g : Group} {i : Instant} (inv : Inv g i) where
           go (from-lead high q (by-all z (k, m, inr late) _ _)) =
               let h = told q k (replier q k m) (z k (replier q k m)) .2 in
               let x = gave-is e k (fast q k m) .2 in
-              let o : _≡_ {A = ℕ} 0 1 = cc in
-              absurd (omega arith)
+              clash x (h ∙ late)
           -- one of the repliers in the fast set, or the home, gave t
           go (from-lead high q (by-fast z away top (k, m, p))) =
               let (j, s) = share (with-home q) (givers g (e .gave) t) (g .fast) (g .r) (in-fast q)

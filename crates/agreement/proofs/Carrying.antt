@@ -1,16 +1,16 @@
 -- Carried-out lists are beginnings of one another.
 use mathlib.Core.Path.{_≡_, refl, sym, subst, ap, _∙_}
-use mathlib.Core.Bool.{Bool, true, false, _&&_, _||_}
+use mathlib.Core.Bool.{Bool, true, false}
 use mathlib.Core.List.{List, [], _∷_, _++_}
 use mathlib.Core.Logic.{_⊎_, inl, inr}
-use Prim.Native.Nat.{ℕ, _≤_, _<_}
+use Prim.Native.Nat.{ℕ, _≤_}
 use native.Mathlib.Decide.{ℕ-discrete, decLe}
 use native.Mathlib.Omega.{arith}
-use lib.Dec.{eqb, ltb}
 use Rattle.agreement.specs.Runs.{_∈_, put}
-use Rattle.agreement.specs.Order.{Stamped, entry, Lawful, lower, View, blank, stamped, Step, next, Due, Allowed, Ascends, Begins, Alike, Same-beginnings}
+use Rattle.agreement.specs.Order.{Stamped, entry, Lawful, lower, View, blank, stamped, Step, next, Allowed, Ascends, Begins, Alike, Same-beginnings}
 use Rattle.agreement.specs.Order.Step.{commit, settle, carry-out}
-use Rattle.agreement.proofs.Tables.{clash, each, put-each, run-keeps}
+use Rattle.agreement.proofs.Tables.{each, put-each, run-keeps}
+use Rattle.agreement.proofs.Truth.{clash, not-true}
 
 -- ---- lists
 
@@ -92,10 +92,6 @@ module _ (before : Stamped → Stamped → Bool) (o : Lawful before) where
   beginning (x ∷ xs) [] a b c d = inr (x ∷ xs, refl)
   beginning (x ∷ xs) (y ∷ ys) a b c d = go (beginning xs ys (a .1) (b .1) closed closed′)
     where
-      not-true : (t : Bool) → (t ≡ true → ⊥) → t ≡ false
-      not-true true h = absurd (h refl)
-      not-true false h = refl
-
       heads : x ≡ y
       heads =
           o .total x y

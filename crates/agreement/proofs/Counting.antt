@@ -1,13 +1,12 @@
 -- How many members sets have: the one fact on two sets, and what follows for quorums.
-use mathlib.Core.Path.{_≡_, refl, sym}
+use mathlib.Core.Path.{_≡_, refl}
 use mathlib.Core.Bool.{Bool, true, false, cond, _&&_, _||_}
 use mathlib.Core.Logic.{_⊎_, inl, inr}
 use Prim.Native.Nat.{ℕ, zero, suc, _+_, _≤_, _<_}
 use native.Mathlib.Decide.{ℕ-discrete}
 use native.Mathlib.Omega.{arith}
-use lib.Dec.{eqb}
 use Rattle.agreement.specs.Sets.{Set, count, Among}
-use Rattle.agreement.proofs.Tables.{clash}
+use Rattle.agreement.proofs.Truth.{and-both, or-either}
 
 abbrev pub _∩_ : Set → Set → Set
 _∩_ A B j = A j && B j
@@ -93,15 +92,11 @@ pub share : (A B C : Set) (n : ℕ)
     → (j : ℕ) × Among n (_∩_ A B) j
 share A B C n a b h =
     count-some (_∩_ A B) n
-    (omega (arith, count-two A B n, count-le (_∪_ A B) C n (λ j p. either (A j) (B j) (C j) (p .2) (λ e. a j (p .0, p .1, e)) (λ e. b j (p .0, p .1, e)))))
+    (omega (arith, count-two A B n, count-le (_∪_ A B) C n (λ j p. whole j p (or-either (A j) (B j) (p .2)))))
   where
-    either : (x y z : Bool) → (x || y) ≡ true → (x ≡ true → z ≡ true) → (y ≡ true → z ≡ true) → z ≡ true
-    either true y z e f g = f refl
-    either false y z e f g = g e
-
-pub and-both : (a b : Bool) → (a && b) ≡ true → (a ≡ true) × (b ≡ true)
-and-both true b e = (refl, e)
-and-both false b e = clash e refl
+    whole : (j : ℕ) → Among n (_∪_ A B) j → (A j ≡ true) ⊎ (B j ≡ true) → C j ≡ true
+    whole j p (inl e) = a j (p .0, p .1, e)
+    whole j p (inr e) = b j (p .0, p .1, e)
 
 -- Two sets that together count more than n share one of 1 to n.
 pub meet : (A B : Set) (n : ℕ) → n < count A n + count B n → (j : ℕ) × Among n A j × Among n B j

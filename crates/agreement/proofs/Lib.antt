@@ -7,3 +7,4 @@ pub mod Moves
 pub mod Samples
 pub mod Stability
 pub mod Tables
+pub mod Truth

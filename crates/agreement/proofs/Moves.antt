@@ -1,16 +1,16 @@
 -- Every move keeps the invariant. A move is one or two of the four ways in which a row changes, so each of those is shown once.
-use mathlib.Core.Path.{_≡_, refl, sym, subst, _∙_, ap}
+use mathlib.Core.Path.{_≡_, refl, sym, subst, ap}
 use mathlib.Core.Bool.{Bool, true, false, cond, _&&_}
-use mathlib.Core.List.{List, [], _∷_}
-use mathlib.Core.Logic.{_⊎_, inl, inr, _≢_}
-use Prim.Native.Nat.{ℕ, zero, suc, _+_, _-_, _%_, _≤_, _<_}
+use mathlib.Core.Logic.{_⊎_, inl, inr}
+use Prim.Native.Nat.{ℕ, zero, suc, _-_, _≤_, _<_}
 use native.Mathlib.Nat.{mod-eq-of-lt}
 use native.Mathlib.Omega.{arith}
-use lib.Dec.{eqb, eqb→eq, eqb-refl, T}
+use lib.Dec.{eqb}
 use Rattle.agreement.specs.Runs.{_∈_, put}
-use Rattle.agreement.specs.OneChange.{Group, Row, Early, Acceptance, Reply, Instant, owner, promised, promise-early, promise-late, join-at, accept-at, commit-at, ready, Gathered, Move, after, Allowed, first}
+use Rattle.agreement.specs.OneChange.{Group, Row, Early, Acceptance, Reply, Instant, owner, promised, promise-early, promise-late, join-at, accept-at, commit-at, Gathered, Move, after, Allowed, first}
 use Rattle.agreement.specs.OneChange.Move.{enter, answer, quick, slow, follow, decide, join, lead, learn}
-use Rattle.agreement.proofs.Tables.{clash, one-more, either, each, put-each, at-put}
+use Rattle.agreement.proofs.Truth.{clash}
+use Rattle.agreement.proofs.Tables.{one-more, either, each, put-each, at-put}
 use Rattle.agreement.proofs.Invariant.{Proposal, RowOk, EarlyOk, AcceptanceOk, ReplyOk, CommitOk, Source, Gap, One, Inv, Grows, _⊑_, grows-same, row-survives, early-survives, gathered-survives, source-survives, acceptance-survives, reply-survives, commit-survives}
 use Rattle.agreement.proofs.Invariant.Source.{from-slow, from-lead}
 use Rattle.agreement.proofs.Invariant.CommitOk.{by-quick, by-backing}

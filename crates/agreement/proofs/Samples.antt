@@ -1,18 +1,17 @@
 -- The sample runs.
 use mathlib.Core.Path.{_≡_, refl}
-use mathlib.Core.Bool.{Bool, true, false}
+use mathlib.Core.Bool.{true, false}
 use mathlib.Core.List.{List, [], _∷_}
-use mathlib.Core.Logic.{_⊎_, inl, inr}
-use Prim.Native.Nat.{ℕ, zero, suc, _≤_, _<_}
+use mathlib.Core.Logic.{inl, inr}
+use Prim.Native.Nat.{ℕ, zero, suc, _≤_}
 use native.Mathlib.Omega.{arith}
 use lib.Dec.{leb, lit≤, lit<}
 use Rattle.agreement.specs.Sets.{Set, count, bits, Among}
 use Rattle.agreement.specs.Runs.{_∈_, Legal, outcome}
 use Rattle.agreement.specs.OneChange.{Group, Instant, Gathered, Backing, Replied, Picked, Move, Allowed, first, after}
-use Rattle.agreement.specs.OneChange.Move.{enter, answer, quick, slow, follow, decide, join, lead, learn}
+use Rattle.agreement.specs.OneChange.Move.{enter, answer, quick, slow, follow, decide, join, lead}
 use Rattle.agreement.specs.OneChange.Picked.{by-ballot, by-all, by-fast}
-use Rattle.agreement.specs.Order.{View, Stamped, entry, lower, blank}
-use Rattle.agreement.proofs.Tables.{clash, put-each}
+use Rattle.agreement.proofs.Truth.{clash}
 use Rattle.agreement.specs.Samples.Way.{of-greatest-ballot, of-all, of-fast-set}
 use Rattle.agreement.specs.Samples.{Carries-out-two, Settles, Commits, Takes-over, fast-run, slow-run, accepted-before, home-replies, home-silent, seen-through, Samples}
 

@@ -1,17 +1,17 @@
 -- Up to a stable timestamp nothing is left to come, and clocks do not pass the number of own promises.
 use mathlib.Core.Path.{_≡_, refl, sym, subst, _∙_}
 use mathlib.Core.Bool.{Bool, true, false, _&&_, _||_}
-use mathlib.Core.List.{List, [], _∷_}
 use mathlib.Core.Logic.{_⊎_, inl, inr}
 use Prim.Native.Nat.{ℕ, zero, suc, _+_, _*_, _≤_, _<_}
 use native.Mathlib.Decide.{ℕ-discrete, decLe}
 use native.Mathlib.Omega.{arith}
-use lib.Dec.{ltb, leb}
-use Rattle.agreement.specs.Sets.{Set, count, Among, majority}
+use lib.Dec.{ltb}
+use Rattle.agreement.specs.Sets.{Set, count, Among}
 use Rattle.agreement.specs.Runs.{_∈_, put}
 use Rattle.agreement.specs.Promises.{Book, Told, Instant, first, Move, with-between, changed, actor, telling, after, Majority-below, Reached, Allowed, Stable, made, Sound, Nothing-below}
 use Rattle.agreement.specs.Promises.Move.{promise, bump, tell, hear, commit}
-use Rattle.agreement.proofs.Tables.{clash, either, one-more, put-each, at-put, run-keeps}
+use Rattle.agreement.proofs.Truth.{clash, not-true}
+use Rattle.agreement.proofs.Tables.{either, one-more, put-each, at-put, run-keeps}
 use Rattle.agreement.proofs.Counting.{count-all, count-le, count-lt, meet}
 
 -- ---- the facts
@@ -184,7 +184,7 @@ module _ {r n : ℕ} {x : Instant} (inv : Inv r n x) where
         detached-low = λ u. between-low (a .detached u) (a .clock) t u t (ok .detached-low u) (omega arith) (omega arith);
         apart =
             put-each (a .own) c t (λ _ n. 1 ≤ n → with-between (a .detached) (a .clock) t n ≡ false)
-            (λ _. not-between (a .detached t) (a .clock) t t (fresh (a .detached t) (ok .detached-low t)) (inr (omega arith)))
+            (λ _. not-between (a .detached t) (a .clock) t t (not-true (a .detached t) (λ d. let l = ok .detached-low t d in omega arith)) (inr (omega arith)))
             (λ d p. not-between (a .detached (a .own d)) (a .clock) t (a .own d) (ok .apart d p) (inl (ok .own-low d)));
         single =
             put-each (a .own) c t (λ d m. (k : ℕ) → 1 ≤ m → m ≡ put (a .own) c t k → d ≡ k)
@@ -198,10 +198,6 @@ module _ {r n : ℕ} {x : Instant} (inv : Inv r n x) where
       let new = at-put (x .books) j _ (λ w. ltb 0 (w .own c) ≡ true) (at-put (a .own) c t (λ m. ltb 0 m ≡ true) (grind arith)) in
       let g = made-more r e n j c j1 jr c1 cn (grind arith) new in
       omega arith)
-    where
-      fresh : (b : Bool) → (b ≡ true → t ≤ x .books j .clock) → b ≡ false
-      fresh true h = let l = h refl in absurd (omega arith)
-      fresh false h = refl
 
   bump-keeps : (j t : ℕ) → Allowed r n x (bump j t) → Inv r n (after x (bump j t))
   bump-keeps j t (above, top) =

@@ -1,17 +1,12 @@
 -- Lists with one more entry, tables with one place put, and what a run keeps.
-use mathlib.Core.Path.{_≡_, refl, sym, subst}
+use mathlib.Core.Path.{_≡_, refl, subst}
 use mathlib.Core.Bool.{Bool, true, false, cond}
 use mathlib.Core.List.{List, [], _∷_}
 use mathlib.Core.Logic.{_⊎_, inl, inr}
 use Prim.Native.Nat.{ℕ}
-use native.Mathlib.Omega.{arith}
-use lib.Dec.{eqb, eqb→eq, eqb-refl, T}
+use lib.Dec.{eqb, eqb-refl, T}
+use Rattle.agreement.proofs.Truth.{same-number}
 use Rattle.agreement.specs.Runs.{_∈_, put, Legal, outcome}
-
-pub clash : {A : Type 0} {b : Bool} → b ≡ true → b ≡ false → A
-clash p q =
-    let z : _≡_ {A = ℕ} 0 1 = cc in
-    absurd (omega arith)
 
 pub either : {A B : Type 0} → A ⊎ B → (A → B) → B
 either (inl a) f = f a
@@ -32,7 +27,7 @@ module _ {A : Type 0} (table : ℕ → A) (j : ℕ) (x : A) where
   put-each P new old k = go (eqb j k) refl
     where
       go : (b : Bool) → eqb j k ≡ b → P k (cond b x (table k))
-      go true e = subst (λ (n : ℕ). P n x) (eqb→eq j k (subst T (sym e) tt)) new
+      go true e = subst (λ (n : ℕ). P n x) (same-number j k e) new
       go false e = old k
 
   -- What was put stands at its place.

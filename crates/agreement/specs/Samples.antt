@@ -1,10 +1,10 @@
 -- Small runs to which the laws apply: the premises of the laws are met.
 use mathlib.Core.Path.{_≡_}
 use mathlib.Core.List.{List, [], _∷_}
-use Prim.Native.Nat.{ℕ, _≤_}
+use Prim.Native.Nat.{ℕ}
 use Rattle.agreement.specs.Runs.{Legal, outcome}
 use Rattle.agreement.specs.OneChange.{Group, Instant, Replied, Picked, Move, Allowed, first, after}
-use Rattle.agreement.specs.OneChange.Move.{enter, answer, quick, slow, follow, decide, join, lead, learn}
+use Rattle.agreement.specs.OneChange.Move.{enter, answer, quick, slow, follow, decide, join, lead}
 use Rattle.agreement.specs.OneChange.Picked.{by-ballot, by-all, by-fast}
 use Rattle.agreement.specs.Order as order
 use Rattle.agreement.specs.Order.Step.{commit, settle, carry-out}
