@@ -12,12 +12,15 @@ use Rattle.agreement.specs.Runs.{_∈_, put, Legal, outcome}
 -- A group of r controllers that tolerates f silent ones, and one change: its home and its fast set.
 pub record Group : Type 0 where
   pub r : ℕ
+  -- at least one may be silent, and always more than half speak
   pub f : ℕ
   pub one-silent : 1 ≤ f
   pub most-speak : 2 * f + 1 ≤ r
+  -- the home is one of 1 to r
   pub home : ℕ
   pub home-first : 1 ≤ home
   pub home-last : home ≤ r
+  -- the fast set has the size of a fast quorum, with the home in it
   pub fast : Set
   pub fast-size : count fast r ≡ fast-quorum r f
   pub fast-home : fast home ≡ true
@@ -52,7 +55,7 @@ pub record Acceptance : Type 0 where
   pub ballot : ℕ
   pub value : ℕ
 
--- A controller joined the ballot, and says what its row held.
+-- A controller joined the ballot, and says the timestamp that it held, where it had last accepted, and whether it promised early.
 pub record Reply : Type 0 where
   pub who : ℕ
   pub ballot : ℕ
@@ -191,9 +194,12 @@ after g i (learn j t) = commit-at i j t
 
 -- All of the fast set said their early promises, and t is the greatest of them.
 pub record Gathered (g : Group) (i : Instant) (t : ℕ) : Type 0 where
+  -- what each gave, and that it said so
   pub gave : ℕ → ℕ
   pub said : (j : ℕ) → Among (g .r) (g .fast) j → record { who = j; value = gave j } ∈ i .earlies
+  -- nobody gave more than t
   pub below : (j : ℕ) → Among (g .r) (g .fast) j → gave j ≤ t
+  -- and somebody gave t
   pub top : ℕ
   pub top-in : Among (g .r) (g .fast) top
   pub top-is : gave top ≡ t
@@ -206,6 +212,7 @@ givers g gave t j = g .fast j && eqb (gave j) t
 pub record Replied (g : Group) (i : Instant) (b : ℕ) : Type 0 where
   pub who : Set
   pub enough : take-over-quorum (g .r) (g .f) ≤ count who (g .r)
+  -- what each replied, and that it said so
   pub ts : ℕ → ℕ
   pub abal : ℕ → ℕ
   pub early : ℕ → Bool
@@ -240,7 +247,7 @@ pub data Picked (g : Group) {i : Instant} {b : ℕ} (q : Replied g i b) (t : ℕ
       → ((k : ℕ) × Among (g .r) (fast-repliers g q) k × (q .ts k ≡ t))
       → Picked g q t
 
--- A slow quorum said acceptances at the ballot b.
+-- A slow quorum said acceptances at the ballot b, of whatever value.
 abbrev pub Backing : Group → Instant → ℕ → Type 0
 Backing g i b =
     (who : Set) × (slow-quorum (g .f) ≤ count who (g .r))

@@ -39,6 +39,7 @@ pub record View : Type 0 where
 abbrev pub blank : ℕ → View
 blank _ = record { stamp = λ _. 0; stable = 0; carried = [] }
 
+-- A change under the timestamp that the controller committed it with.
 abbrev pub stamped : View → ℕ → Stamped
 stamped v c = entry (v .stamp c) c
 
@@ -50,6 +51,7 @@ pub data Step : Type 0 where
   -- controller i carries out the change c
   carry-out : (i c : ℕ) → Step
 
+-- What the controllers hold after a step.
 abbrev pub next : (ℕ → View) → Step → ℕ → View
 next views (commit i c t) =
     put views i
@@ -68,6 +70,7 @@ next views (carry-out i c) =
 abbrev pub Due : View → ℕ → Type 0
 Due v c = (1 ≤ v .stamp c) × (v .stamp c ≤ v .stable) × ¬ (stamped v c ∈ v .carried)
 
+-- When a step may be made.
 abbrev pub Allowed : (Stamped → Stamped → Bool) → (ℕ → View) → Step → Type 0
 -- Commits agree, and whoever is stable up to t has the change already: so t lies above what is stable at i.
 Allowed before views (commit i c t) =

@@ -64,6 +64,7 @@ pub data Move : Type 0 where
 abbrev pub with-between : Set → ℕ → ℕ → Set
 with-between A m n u = A u || (ltb m u && ltb u n)
 
+-- The book of the controller that makes the move, after it.
 abbrev pub changed : Book → Move → Book
 changed b (promise j c t) =
     record {

@@ -16,11 +16,16 @@ use Rattle.agreement.specs.Promises.Move.{promise, tell, hear, commit as commi
 -- The moves may be made one after the other, and t is committed.
 abbrev pub Commits : List Move → ℕ → Type 0
 Commits ms t =
-    (g : Group) × (g .r ≡ 5) × (g .f ≡ 2) × Legal (Allowed g) (after g) first ms × (outcome (after g) first ms .commits ≡ t ∷ [])
+    (g : Group) × (g .r ≡ 5) × (g .f ≡ 2) × Legal (Allowed g) (after g) first ms
+    × (outcome (after g) first ms .commits ≡ t ∷ [])
 
+-- How the owner of a ballot came to its choice.
 pub data Way : Type 0 where
+  -- a replier had accepted
   of-greatest-ballot : Way
+  -- none had, and the home replied, or one of the fast set that had not promised early
   of-all : Way
+  -- none had, and the home was silent
   of-fast-set : Way
 
 abbrev pub way : {g : Group} {i : Instant} {b t : ℕ} {q : Replied g i b} → Picked g q t → Way
@@ -87,7 +92,8 @@ heard =
 -- At controller 4 timestamp 1 is stable.
 abbrev pub Settles : Type 0
 Settles =
-    Legal (promises.Allowed 5 1) promises.after promises.first heard × promises.Stable 5 (outcome promises.after promises.first heard) 4 1
+    Legal (promises.Allowed 5 1) promises.after promises.first heard
+    × promises.Stable 5 (outcome promises.after promises.first heard) 4 1
 
 -- ---- all samples, over the timestamp t that they commit
 
