@@ -1,13 +1,14 @@
 -- Every move keeps the invariant. A move is one or two of the four ways in which a row changes, so each of those is shown once.
 use mathlib.Core.Path.{_≡_, refl, sym, subst, ap}
 use mathlib.Core.Bool.{Bool, true, false, cond, _&&_}
+use mathlib.Core.List.{_∷_}
 use mathlib.Core.Logic.{_⊎_, inl, inr}
 use Prim.Native.Nat.{ℕ, zero, suc, _-_, _≤_, _<_}
 use native.Mathlib.Nat.{mod-eq-of-lt}
 use native.Mathlib.Omega.{arith}
 use lib.Dec.{eqb}
 use Rattle.agreement.specs.Runs.{_∈_, put}
-use Rattle.agreement.specs.OneChange.{Group, Row, Early, Acceptance, Reply, Instant, owner, promised, promise-early, promise-late, join-at, accept-at, commit-at, Gathered, Move, after, Allowed, first}
+use Rattle.agreement.specs.OneChange.{Group, Row, Early, Acceptance, Reply, Instant, owner, promised, joined, accepted, committed, promise-early, promise-late, join-at, accept-at, commit-at, Gathered, Move, after, Allowed, first}
 use Rattle.agreement.specs.OneChange.Move.{enter, answer, quick, slow, follow, decide, join, lead, learn}
 use Rattle.agreement.proofs.Truth.{clash}
 use Rattle.agreement.proofs.Tables.{one-more, either, each, put-each, at-put}
@@ -120,48 +121,62 @@ module _ {g : Group} {i : Instant} (inv : Inv g i) where
       (promised-ok _ j v false h pos (λ p. clash p refl))
       (λ m p. inl p) (λ m p. inl p) (λ m p. inl p) (λ t p. inl p) (inv .gap) (inv .one)
 
-  -- ---- a ballot
+  -- ---- a ballot joined
 
   join-keeps : (j b : ℕ) → i .rows j .done ≡ false → i .rows j .bal < b
       → 1 ≤ i .rows (g .home) .promise
       → (i .rows j .abal ≡ 0 → 1 ≤ i .rows j .promise)
       → Inv g (join-at i j b)
   join-keeps j b pending above home made =
-      let i′ = join-at i j b in
-      let old = inv .rows j in
-      let x : Row = i .rows j in
-      let y : Row = record { promise = x .promise; early = x .early; bal = b; abal = x .abal; ts = x .ts; done = x .done } in
-      let ext : i ⊑ i′ =
-      grown j y
-      (record { promise = λ _. refl; early = λ _. refl; bal = omega arith; abal = omega arith; done = λ d. clash d pending })
-      refl (λ m p. p) (λ m p. p) (λ m p. inr p) (λ m p. p)
-      in
-      let kept = row-survives ext j x old in
-      let z = ext .rows (g .home) .promise home in
-      keeps ext j y refl
-      (record {
-        low = omega arith;
-        early-home = kept .early-home;
-        own = kept .own;
-        joined = λ _ a. made a;
-        kept = kept .kept;
-        done-said = kept .done-said;
-        entered = λ n. absurd (omega arith);
-      })
-      (λ m p. inl p) (λ m p. inl p)
-      (one-more (ReplyOk g i′) _ _
-      (record {
-        low = at-put (i .rows) j y (λ y. b ≤ y .bal) (omega arith);
-        before = omega arith;
-        accepted = kept .kept pending;
-        promised =
-            λ a. let n = made a in let own = old .own pending a n in
-            (at-put (i .rows) j y (λ y. y .promise ≡ x .ts) (sym own), omega arith, at-put (i .rows) j y (λ y. y .early ≡ x .early) refl);
-      }))
-      (λ t p. inl p)
-      (each (λ m. (a : Acceptance) → a ∈ i .acceptances → a .who ≡ m .who → a .ballot < m .ballot → a .ballot ≤ m .abal) _ _
-      (λ a p w _. reaches a p j w) (inv .gap))
+      keeps ext j (joined x b) refl row (λ m p. inl p) (λ m p. inl p) (one-more (ReplyOk g i′) _ _ reply) (λ t p. inl p)
+      (each Told _ _ (λ a p w _. reaches a p j w) (inv .gap))
       (inv .one)
+    where
+      i′ : Instant
+      i′ = join-at i j b
+
+      x : Row
+      x = i .rows j
+
+      ext : i ⊑ i′
+      ext =
+          grown j (joined x b)
+          (record { promise = λ _. refl; early = λ _. refl; bal = omega arith; abal = omega arith; done = λ d. clash d pending })
+          refl (λ m p. p) (λ m p. p) (λ m p. inr p) (λ m p. p)
+
+      old : RowOk g i′ j x
+      old = row-survives ext j x (inv .rows j)
+
+      row : RowOk g i′ j (joined x b)
+      row =
+          record {
+            low = let l = old .low in omega arith;
+            early-home = old .early-home;
+            own = old .own;
+            joined = λ _ a. made a;
+            kept = old .kept;
+            done-said = old .done-said;
+            entered = λ n. let e = ext .rows (g .home) .promise home in absurd (omega arith);
+          }
+
+      reply : ReplyOk g i′ (record { who = j; ballot = b; ts = x .ts; abal = x .abal; early = x .early })
+      reply =
+          record {
+            low = at-put (i .rows) j (joined x b) (λ y. b ≤ y .bal) (omega arith);
+            before = let l = old .low in omega arith;
+            accepted = old .kept pending;
+            promised =
+                λ a. let own = old .own pending a (made a) in (
+                  at-put (i .rows) j (joined x b) (λ y. y .promise ≡ x .ts) (sym own),
+                  omega (arith, made a),
+                  at-put (i .rows) j (joined x b) (λ y. y .early ≡ x .early) refl,
+                );
+          }
+
+      Told : Reply → Type 0
+      Told m = (a : Acceptance) → a ∈ i .acceptances → a .who ≡ m .who → a .ballot < m .ballot → a .ballot ≤ m .abal
+
+  -- ---- a value accepted
 
   accept-keeps : (j b t : ℕ) → i .rows j .done ≡ false → i .rows j .bal ≤ b → 1 ≤ b
       → 1 ≤ i .rows (g .home) .promise
@@ -170,70 +185,93 @@ module _ {g : Group} {i : Instant} (inv : Inv g i) where
       → ((m : Acceptance) → m ∈ i .acceptances → m .ballot ≡ b → m .value ≡ t)
       → Inv g (accept-at i j b t)
   accept-keeps j b t pending above pos home proposed source same =
-      let i′ = accept-at i j b t in
-      let old = inv .rows j in
-      let x : Row = i .rows j in
-      let y : Row = record { promise = x .promise; early = x .early; bal = b; abal = b; ts = t; done = x .done } in
-      let ext : i ⊑ i′ =
-      grown j y
-      (record { promise = λ _. refl; early = λ _. refl; bal = above; abal = omega arith; done = λ d. clash d pending })
-      refl (λ m p. p) (λ m p. inr p) (λ m p. p) (λ m p. p)
-      in
-      let kept = row-survives ext j x old in
-      let z = ext .rows (g .home) .promise home in
-      keeps ext j y refl
-      (record {
-        low = omega arith;
-        early-home = kept .early-home;
-        own = λ _ a _. absurd (omega arith);
-        joined = λ _ a. absurd (omega arith);
-        kept = λ _ _. inl refl;
-        done-said = λ d. clash d pending;
-        entered = λ n. absurd (omega arith);
-      })
-      (λ m p. inl p)
-      (one-more (AcceptanceOk g i′) _ _
-      (record {
-        positive = pos;
-        low = at-put (i .rows) j y (λ y. b ≤ y .abal) (omega arith);
-        proposed = proposed;
-        source = source-survives ext source;
-      }))
-      (λ m p. inl p) (λ t p. inl p)
-      (λ m p. each (λ a. a .who ≡ m .who → a .ballot < m .ballot → a .ballot ≤ m .abal) _ _
-      (λ w l. let n = subst (λ (k : ℕ). m .ballot ≤ i .rows k .bal) (sym w) (inv .replies m p .low) in absurd (omega arith))
-      (inv .gap m p))
-      (λ m n p q. each (λ m. m .ballot ≡ n .ballot → m .value ≡ n .value) _ _
-      (each (λ n. b ≡ n .ballot → t ≡ n .value) _ _ (λ _. refl) (λ n q e. sym (same n q (sym e))) n q)
-      (λ m p. each (λ n. m .ballot ≡ n .ballot → m .value ≡ n .value) _ _ (same m p) (λ n q. inv .one m n p q) n q)
-      m p)
+      keeps ext j (accepted x b t) refl row (λ m p. inl p) (one-more (AcceptanceOk g i′) _ _ acceptance) (λ m p. inl p)
+      (λ t p. inl p) gap one
+    where
+      i′ : Instant
+      i′ = accept-at i j b t
+
+      x : Row
+      x = i .rows j
+
+      ext : i ⊑ i′
+      ext =
+          grown j (accepted x b t)
+          (record {
+            promise = λ _. refl;
+            early = λ _. refl;
+            bal = above;
+            abal = let l = inv .rows j .low in omega arith;
+            done = λ d. clash d pending;
+          })
+          refl (λ m p. p) (λ m p. inr p) (λ m p. p) (λ m p. p)
+
+      row : RowOk g i′ j (accepted x b t)
+      row =
+          record {
+            low = omega arith;
+            early-home = row-survives ext j x (inv .rows j) .early-home;
+            own = λ _ a _. absurd (omega arith);
+            joined = λ _ a. absurd (omega arith);
+            kept = λ _ _. inl refl;
+            done-said = λ d. clash d pending;
+            entered = λ n. let e = ext .rows (g .home) .promise home in absurd (omega arith);
+          }
+
+      acceptance : AcceptanceOk g i′ (record { who = j; ballot = b; value = t })
+      acceptance =
+          record {
+            positive = pos;
+            low = at-put (i .rows) j (accepted x b t) (λ y. b ≤ y .abal) (omega arith);
+            proposed = proposed;
+            source = source-survives ext source;
+          }
+
+      gap : Gap (i .replies) (record { who = j; ballot = b; value = t } ∷ i .acceptances)
+      gap m p =
+          each (λ a. a .who ≡ m .who → a .ballot < m .ballot → a .ballot ≤ m .abal) _ _
+          (λ w l. let n = subst (λ (k : ℕ). m .ballot ≤ i .rows k .bal) (sym w) (inv .replies m p .low) in absurd (omega arith))
+          (inv .gap m p)
+
+      one : One (record { who = j; ballot = b; value = t } ∷ i .acceptances)
+      one m n p q =
+          each (λ m. m .ballot ≡ n .ballot → m .value ≡ n .value) _ _
+          (each (λ n. b ≡ n .ballot → t ≡ n .value) _ _ (λ _. refl) (λ n q e. sym (same n q (sym e))) n q)
+          (λ m p. each (λ n. m .ballot ≡ n .ballot → m .value ≡ n .value) _ _ (same m p) (λ n q. inv .one m n p q) n q)
+          m p
+
+  -- ---- a commit
 
   commit-keeps : (j t : ℕ) → 1 ≤ i .rows (g .home) .promise
       → (i ⊑ commit-at i j t → CommitOk g (commit-at i j t) t)
       → Inv g (commit-at i j t)
   commit-keeps j t home ok =
-      let i′ = commit-at i j t in
-      let old = inv .rows j in
-      let x : Row = i .rows j in
-      let y : Row = record { promise = x .promise; early = x .early; bal = x .bal; abal = x .abal; ts = t; done = true } in
-      let ext : i ⊑ i′ =
-      grown j y
-      (record { promise = λ _. refl; early = λ _. refl; bal = omega arith; abal = omega arith; done = λ _. (refl, refl) })
-      refl (λ m p. p) (λ m p. p) (λ m p. p) (λ m p. inr p)
-      in
-      let kept = row-survives ext j x old in
-      let z = ext .rows (g .home) .promise home in
-      keeps ext j y refl
-      (record {
-        low = kept .low;
-        early-home = kept .early-home;
-        own = λ d _ _. clash refl d;
-        joined = kept .joined;
-        kept = λ d _. clash refl d;
-        done-said = λ _. inl refl;
-        entered = λ n. absurd (omega arith);
-      })
-      (λ m p. inl p) (λ m p. inl p) (λ m p. inl p) (one-more (CommitOk g i′) _ _ (ok ext)) (inv .gap) (inv .one)
+      keeps ext j (committed x t) refl row (λ m p. inl p) (λ m p. inl p) (λ m p. inl p)
+      (one-more (CommitOk g (commit-at i j t)) _ _ (ok ext)) (inv .gap) (inv .one)
+    where
+      x : Row
+      x = i .rows j
+
+      ext : i ⊑ commit-at i j t
+      ext =
+          grown j (committed x t)
+          (record { promise = λ _. refl; early = λ _. refl; bal = omega arith; abal = omega arith; done = λ _. (refl, refl) })
+          refl (λ m p. p) (λ m p. p) (λ m p. p) (λ m p. inr p)
+
+      old : RowOk g (commit-at i j t) j x
+      old = row-survives ext j x (inv .rows j)
+
+      row : RowOk g (commit-at i j t) j (committed x t)
+      row =
+          record {
+            low = old .low;
+            early-home = old .early-home;
+            own = λ d _ _. clash refl d;
+            joined = old .joined;
+            kept = λ d _. clash refl d;
+            done-said = λ _. inl refl;
+            entered = λ n. let e = ext .rows (g .home) .promise home in absurd (omega arith);
+          }
 
 -- ---- the moves
 

@@ -84,9 +84,19 @@ first =
 
 -- ---- the four ways in which a row changes
 
--- The row after it promised v.
+-- The row after it promised v, joined the ballot b, accepted t at b, and committed t.
 abbrev pub promised : Row → ℕ → Bool → Row
 promised x v e = record { promise = v; early = e; bal = x .bal; abal = x .abal; ts = v; done = x .done }
+
+abbrev pub joined : Row → ℕ → Row
+joined x b = record { promise = x .promise; early = x .early; bal = b; abal = x .abal; ts = x .ts; done = x .done }
+
+abbrev pub accepted : Row → ℕ → ℕ → Row
+accepted x b t = record { promise = x .promise; early = x .early; bal = b; abal = b; ts = t; done = x .done }
+
+abbrev pub committed : Row → ℕ → Row
+committed x t =
+    record { promise = x .promise; early = x .early; bal = x .bal; abal = x .abal; ts = t; done = true }
 
 -- Controller j promises v on the home's proposal, and says so.
 abbrev pub promise-early : Instant → ℕ → ℕ → Instant
@@ -115,24 +125,18 @@ abbrev pub join-at : Instant → ℕ → ℕ → Instant
 join-at i j b =
     let x = i .rows j in
     record {
-      rows =
-          put (i .rows) j
-          (record { promise = x .promise; early = x .early; bal = b; abal = x .abal; ts = x .ts; done = x .done });
+      rows = put (i .rows) j (joined x b);
       earlies = i .earlies;
       acceptances = i .acceptances;
-      replies =
-          record { who = j; ballot = b; ts = x .ts; abal = x .abal; early = x .early } ∷ i .replies;
+      replies = record { who = j; ballot = b; ts = x .ts; abal = x .abal; early = x .early } ∷ i .replies;
       commits = i .commits;
     }
 
 -- Controller j accepts t at the ballot b, and says so.
 abbrev pub accept-at : Instant → ℕ → ℕ → ℕ → Instant
 accept-at i j b t =
-    let x = i .rows j in
     record {
-      rows =
-          put (i .rows) j
-          (record { promise = x .promise; early = x .early; bal = b; abal = b; ts = t; done = x .done });
+      rows = put (i .rows) j (accepted (i .rows j) b t);
       earlies = i .earlies;
       acceptances = record { who = j; ballot = b; value = t } ∷ i .acceptances;
       replies = i .replies;
@@ -142,11 +146,8 @@ accept-at i j b t =
 -- Controller j commits t, and says so.
 abbrev pub commit-at : Instant → ℕ → ℕ → Instant
 commit-at i j t =
-    let x = i .rows j in
     record {
-      rows =
-          put (i .rows) j
-          (record { promise = x .promise; early = x .early; bal = x .bal; abal = x .abal; ts = t; done = true });
+      rows = put (i .rows) j (committed (i .rows j) t);
       earlies = i .earlies;
       acceptances = i .acceptances;
       replies = i .replies;
