@@ -51,7 +51,9 @@ module _ {g : Group} {i : Instant} (inv : Inv g i) where
   backed-fixes : (b t : ℕ) → Proposal g i b t → Backing g i b → (c : ℕ) → Fixed b t c
   backed-fixes b t p (s, n, a) = below (Fixed b t) step
     where
-      picked : (c u : ℕ) → ((d : ℕ) → d < c → Fixed b t d) → (q : Replied g i c) → Picked g q u → (j : ℕ) → Among (g .r) (q .who) j → 1 ≤ b → b ≤ q .abal j → u ≡ t
+      picked : (c u : ℕ) → ((d : ℕ) → d < c → Fixed b t d) → (q : Replied g i c) → Picked g q u
+          → (j : ℕ) → Among (g .r) (q .who) j → 1 ≤ b → b ≤ q .abal j
+          → u ≡ t
       picked c u ih q (by-ballot k m z top e) j w pos h = let y = top j w in repeats ih q k m z (omega arith) e
       picked c u ih q (by-all z _ _ _) j w pos h = let e = z j w in absurd (omega arith)
       picked c u ih q (by-fast z _ _ _) j w pos h = let e = z j w in absurd (omega arith)

@@ -179,7 +179,9 @@ module _ (before : Stamped → Stamped → Bool) (o : Lawful before) where
       (λ k. record { agree = inv .two k i .agree; complete = inv .two k i .complete })
 
   -- A list goes on ascending with an entry that all others come before.
-  ascends-more : (xs : List Stamped) (x : Stamped) → Ascends before xs → ((y : Stamped) → y ∈ xs → before y x ≡ true) → Ascends before (xs ++ (x ∷ []))
+  ascends-more : (xs : List Stamped) (x : Stamped) → Ascends before xs
+      → ((y : Stamped) → y ∈ xs → before y x ≡ true)
+      → Ascends before (xs ++ (x ∷ []))
   ascends-more [] x a h = ((λ y p. absurd p), tt)
   ascends-more (y ∷ xs) x a h = (next-one, ascends-more xs x (a .1) (λ z p. h z (inr p)))
     where
@@ -225,7 +227,8 @@ module _ (before : Stamped → Stamped → Bool) (o : Lawful before) where
           go (yes q) = q
           go (no q) = let l = no-later b in clash b (first d (p, omega arith, q))
 
-      closed : (y : Stamped) → y ∈ (u .carried ++ (x ∷ [])) → (d : ℕ) → 1 ≤ u .stamp d → before (stamped u d) y ≡ true → stamped u d ∈ (u .carried ++ (x ∷ []))
+      closed : (y : Stamped) → y ∈ (u .carried ++ (x ∷ [])) → (d : ℕ) → 1 ≤ u .stamp d → before (stamped u d) y ≡ true
+          → stamped u d ∈ (u .carried ++ (x ∷ []))
       closed =
           both _ (λ y m d p b. in-front (u .carried) (x ∷ []) (stamped u d) (old .closed y m d p b))
           (λ d p b. in-front (u .carried) (x ∷ []) (stamped u d) (below d p b))

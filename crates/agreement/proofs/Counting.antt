@@ -81,7 +81,9 @@ count-lt A B (suc n) h s m e = go (ℕ-discrete h (suc n)) (λ w. count-lt A B n
         let b : B (suc n) ≡ true = rw p at m .2 in
         rw (a, b) (omega (arith, count-le A B n below))
     go (no p) ih =
-        let w = weigh (A (suc n)) (B (suc n)) (suc (count A n)) (count B n) (λ a. s (suc n) (omega arith, omega arith, a)) (ih below (m .0, omega arith, m .2) e) in
+        let w =
+        weigh (A (suc n)) (B (suc n)) (suc (count A n)) (count B n) (λ a. s (suc n) (omega arith, omega arith, a))
+        (ih below (m .0, omega arith, m .2) e) in
         omega arith
 
 -- Two sets that together count more than a whole that holds both share a member.

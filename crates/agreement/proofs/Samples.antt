@@ -64,7 +64,8 @@ asked v rest = enter 6 ∷ answer 2 7 ∷ answer 3 11 ∷ answer 4 v ∷ rest
 abbrev promised : ℕ → Instant
 promised v = outcome (after five) first (asked v [])
 
-asked-legal : (v : ℕ) → 6 ≤ v → (rest : List Move) → Legal (Allowed five) (after five) (promised v) rest → Legal (Allowed five) (after five) first (asked v rest)
+asked-legal : (v : ℕ) → 6 ≤ v → (rest : List Move) → Legal (Allowed five) (after five) (promised v) rest
+    → Legal (Allowed five) (after five) first (asked v rest)
 asked-legal v l rest legal =
     (refl, lit≤ tt)
     then (refl, refl, refl, (6, inl refl, lit≤ tt))

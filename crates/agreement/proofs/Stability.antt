@@ -184,7 +184,8 @@ module _ {r n : ℕ} {x : Instant} (inv : Inv r n x) where
         detached-low = λ u. between-low (a .detached u) (a .clock) t u t (ok .detached-low u) (omega arith) (omega arith);
         apart =
             put-each (a .own) c t (λ _ n. 1 ≤ n → with-between (a .detached) (a .clock) t n ≡ false)
-            (λ _. not-between (a .detached t) (a .clock) t t (not-true (a .detached t) (λ d. let l = ok .detached-low t d in omega arith)) (inr (omega arith)))
+            (λ _. not-between (a .detached t) (a .clock) t t
+            (not-true (a .detached t) (λ d. let l = ok .detached-low t d in omega arith)) (inr (omega arith)))
             (λ d p. not-between (a .detached (a .own d)) (a .clock) t (a .own d) (ok .apart d p) (inl (ok .own-low d)));
         single =
             put-each (a .own) c t (λ d m. (k : ℕ) → 1 ≤ m → m ≡ put (a .own) c t k → d ≡ k)
