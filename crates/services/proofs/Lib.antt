@@ -1,0 +1,4 @@
+pub mod Bookings
+pub mod Limit
+pub mod Sums
+pub mod Holding
