@@ -1,7 +1,6 @@
 -- The ledger's rules keep every hour to its seconds.
 use mathlib.Core.Path.{_≡_, refl, sym, ap, subst, _∙_}
 use mathlib.Core.Bool.{Bool, true, false, cond, _&&_}
-use mathlib.Core.List.{List, [], _∷_}
 use Prim.Native.Nat.{ℕ, _+_, _-_, _≤_}
 use native.Mathlib.Omega.{arith}
 use lib.ListN.{getD, set}
@@ -12,7 +11,6 @@ use Rattle.std.specs.declared.result.Result.the-variants.{Ok, Err}
 use Rattle.std.specs.shelf.Lists.{sum}
 use Rattle.schedule.specs.Changes.{hour-fits, slot-fits}
 use Rattle.schedule.specs.declared.change.Change.{Change}
-use Rattle.services.specs.Laws.{ran}
 use Rattle.services.specs.Makes.{held-at, table-by, ledger-ruling, ledger-next}
 use Rattle.services.specs.Places.{Table, row, place, with-place, hour-seconds, hour-total, hours-within}
 use Rattle.services.specs.Rules.{judged}
@@ -37,14 +35,6 @@ next-within t c w = by (ledger-ruling t c) refl
     by : (r : Result ℕ (Answer × ℕ)) → ledger-ruling t c ≡ r → hours-within (table-by r t c) ≡ true
     by (Ok v) e = put v e (hour-fits (c .hour)) refl (slot-fits (c .slot)) refl
     by (Err refusal) e = w
-
-pub run-within : (t : Table) (cs : List Change) (h : ℕ) → hours-within t ≡ true → hour-total (ran ledger-next t cs) h ≤ hour-seconds
-run-within t [] h w = total (hour-fits h)
-  where
-    total : (fits : Bool) → cond fits (sum (row t h)) 0 ≤ hour-seconds
-    total true = row-within t h w
-    total false = omega arith
-run-within t (c ∷ cs) h w = run-within (ledger-next t c) cs h (next-within t c w)
 
 -- a table that the rules led to
 pub ruled-within : (t : Table) (c : Change) (value : ℕ) (after : Table) → hours-within t ≡ true → ledger-ruling t c ≡ Ok value → after ≡ with-place t (c .hour) (c .slot) value → hours-within after ≡ true

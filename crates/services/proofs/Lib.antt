@@ -1,4 +1,2 @@
 pub mod Bookings
-pub mod Limit
 pub mod Sums
-pub mod Holding

@@ -3,4 +3,3 @@ pub mod Makes
 pub mod Places
 pub mod Rules
 pub mod Say
-pub mod Laws

@@ -7,10 +7,8 @@ pub mod ledger;
 pub mod order;
 mod places;
 mod rules;
-pub mod run;
 pub mod say;
 pub mod service;
-pub mod steady;
 
 pub use answer::Answer;
 pub use ledger::BreakLedger;
@@ -18,7 +16,6 @@ pub use order::RunningOrder;
 pub use rules::HOUR_SECONDS;
 pub use say::FinalSay;
 pub use service::Service;
-pub use steady::Steady;
 
 #[cfg(test)]
 mod tests;

@@ -20,7 +20,7 @@ pub struct FinalSay<S> {
 
 /// What final say decides on a change.
 #[derive(Clone, Copy)]
-enum SayRuling {
+pub enum SayRuling {
     /// The service below answers.
     Below,
     /// The say of the hour becomes this, and the number is told.

@@ -1,7 +1,7 @@
 use mathlib.Core.Path.{_≡_}
 use lib.ListN.{drop}
-use Rattle.services.specs.Laws.{ran}
-use Rattle.services.proofs.run.run.Given as given
+use Rattle.service_runs.specs.Laws.{ran}
+use Rattle.service_runs.proofs.run.run.Given as given
 
 -- what is left leads to the end of the whole run
 abbrev pub Inv-loop-change : given.InvT-loop-change

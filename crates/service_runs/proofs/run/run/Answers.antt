@@ -4,8 +4,8 @@ use Prim.Native.Nat.{_+_}
 use borrow.Author.Needs.{needs}
 use lib.ListN.{drop, getD}
 use Rattle.std.proofs.shelf.Lists.{at-drop-more, at-drop-all}
-use Rattle.services.specs.Laws.{ran}
-use Rattle.services.proofs.run.run.Needs as need
+use Rattle.service_runs.specs.Laws.{ran}
+use Rattle.service_runs.proofs.run.run.Needs as need
 
 pub loop-change-again : need.loop-change-again
 loop-change-again g c =

@@ -1,11 +1,11 @@
 use mathlib.Core.Path.{_≡_, _∙_, refl}
 use Prim.Native.Nat.{ℕ}
 use borrow.Author.Needs.{needs}
-use Rattle.services.specs.Laws.{put-of}
+use Rattle.service_runs.specs.Laws.{put-of}
 use Rattle.services.specs.Makes.{ledger-next, ledger-outcome}
 use Rattle.services.specs.Places.{Table, no-places}
-use Rattle.services.proofs.Limit.{near-the-limit}
-use Rattle.services.proofs.run.near_the_limit.Needs as need
+use Rattle.service_runs.proofs.Limit.{near-the-limit}
+use Rattle.service_runs.proofs.run.near_the_limit.Needs as need
 
 pub returns : need.returns
 returns c =

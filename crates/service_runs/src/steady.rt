@@ -2,15 +2,15 @@
 
 ghost use mathlib.Core.Path.{_≡_};
 ghost use Rattle.schedule.specs.declared.change.Change.{Change};
-ghost use Rattle.services.specs.Laws.{Refused-keeps};
-use crate::booking::BreakLedgerService;
-use crate::ledger::BreakLedger;
-use crate::order::RunningOrder;
-use crate::order::RunningOrderService;
-use crate::say::FinalSay;
-use crate::say::FinalSayService;
-use crate::service::Service;
+ghost use Rattle.service_runs.specs.Laws.{Refused-keeps};
 use schedule::Change;
+use services::booking::BreakLedgerService;
+use services::ledger::BreakLedger;
+use services::order::RunningOrder;
+use services::order::RunningOrderService;
+use services::say::FinalSay;
+use services::say::FinalSayService;
+use services::service::Service;
 
 /// A service that a refused change leaves as it was.
 pub trait Steady: Service {

@@ -5,18 +5,18 @@ ghost use mathlib.Core.Bool.{true};
 ghost use mathlib.Core.Path.{_≡_};
 ghost use lib.ListN.{take};
 ghost use Rattle.std.specs.Results.{isErr};
-ghost use Rattle.services.specs.Laws.{as-result, Near-the-limit, Say-holds, put-of, ran};
+ghost use Rattle.service_runs.specs.Laws.{as-result, Near-the-limit, Say-holds, put-of, ran};
 ghost use Rattle.services.specs.Makes.{ledger-next};
 ghost use Rattle.services.specs.Places.{no-places, hour-seconds, hour-total};
 ghost use Rattle.services.specs.Say.{say-next};
-use crate::booking::BreakLedgerService;
-use crate::ledger::BreakLedger;
-use crate::say::FinalSay;
-use crate::say::FinalSayService;
-use crate::service::Service;
 use crate::steady::Steady;
 use schedule::Change;
 use schedule::Kind;
+use services::booking::BreakLedgerService;
+use services::ledger::BreakLedger;
+use services::say::FinalSay;
+use services::say::FinalSayService;
+use services::service::Service;
 
 /// Carries out changes, one after the other.
 pub fn run<S: Service>(service: &mut S, changes: &[Change])
