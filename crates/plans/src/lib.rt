@@ -1,0 +1,14 @@
+//! Plans: lines that ask for changes and readings, the service that they are tried on, and how all of it is told.
+
+pub mod book;
+pub mod day;
+pub mod request;
+pub mod tally;
+pub mod words;
+
+pub use book::Book;
+pub use day::Day;
+pub use day::Reply;
+pub use request::Misread;
+pub use request::Request;
+pub use tally::Tally;
