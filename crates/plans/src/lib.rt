@@ -4,7 +4,7 @@ pub mod book;
 pub mod day;
 pub mod request;
 pub mod tally;
-pub mod words;
+mod words;
 
 pub use book::Book;
 pub use day::Day;

@@ -33,13 +33,7 @@ pub enum Misread {
 }
 
 /// The change that five words name.
-pub fn change_of(
-    of: &str,
-    to_do: &str,
-    hour: &str,
-    slot: &str,
-    value: &str,
-) -> Result<Change, Misread>
+fn change_of(of: &str, to_do: &str, hour: &str, slot: &str, value: &str) -> Result<Change, Misread>
     ensures { λ r. ⌜ r ≡ change-named (now (of .entry)) (now («to_do» .entry)) (now (hour .entry)) (now (slot .entry)) (now (value .entry)) ⌝ }
 {
     let department = department(of).ok_or(Misread::NoDepartment)?;
@@ -56,7 +50,7 @@ pub fn change_of(
 }
 
 /// The hour and slot that two words name.
-pub fn place_of(hour: &str, slot: &str) -> Result<(u32, u32), Misread>
+fn place_of(hour: &str, slot: &str) -> Result<(u32, u32), Misread>
     ensures { λ r. ⌜ r ≡ place-named (now (hour .entry)) (now (slot .entry)) ⌝ }
 {
     Ok((

@@ -33,6 +33,7 @@ abbrev pub wanted : Change → ℕ
 wanted c = cond (is c Clear) 0 (c .value)
 
 -- The first line that fits decides: what the place holds then, or why the change is refused and what is told besides.
+-- A clear never raises an hour's total, so the line on the total asks only put and replace.
 abbrev pub judged : Change → ℕ → Option ℕ → Result ℕ (Answer × ℕ)
 judged c held total =
     cond (not (change-fits c) || (is c Claim || is c Yield)) (Err (OutsideLimits, 0))

@@ -5,15 +5,15 @@ ghost use Rattle.services.specs.Places.{no-places, place, with-place};
 use schedule::change::HOURS;
 use schedule::change::SLOTS;
 
-/// Hours of a day and slots of an hour, as lengths of tables.
-pub const DAY: usize = HOURS as usize;
+/// Hours of a day and slots of an hour, as the lengths of tables.
+pub const DAY_HOURS: usize = HOURS as usize;
 
-pub const HOUR: usize = SLOTS as usize;
+pub const HOUR_SLOTS: usize = SLOTS as usize;
 
 /// A number for each hour and slot, 0 for an empty place.
 #[derive(Clone, Copy)]
 pub struct Places {
-    pub rows: [[u32; HOUR]; DAY],
+    pub rows: [[u32; HOUR_SLOTS]; DAY_HOURS],
 }
 
 impl Places {
@@ -22,7 +22,7 @@ impl Places {
         ensures { λ made. ⌜ made .rows ≡ no-places ⌝ }
     {
         Places {
-            rows: [[0; HOUR]; DAY],
+            rows: [[0; HOUR_SLOTS]; DAY_HOURS],
         }
     }
 

@@ -3,7 +3,7 @@
 ghost use mathlib.Core.Path.{_≡_};
 ghost use Rattle.services.specs.Say.{Says, no-says, say-number, say-at, say-judged, say-becomes, say-next, say-outcome};
 use crate::answer::Answer;
-use crate::places::DAY;
+use crate::places::DAY_HOURS;
 use crate::rules::asks;
 use crate::service::Service;
 use schedule::Change;
@@ -14,7 +14,7 @@ use schedule::change::HOURS;
 /// A service under final say: who has the say of each hour, and the service below.
 #[derive(Clone, Copy)]
 pub struct FinalSay<S> {
-    pub(crate) says: [Option<Department>; DAY],
+    pub(crate) says: [Option<Department>; DAY_HOURS],
     pub(crate) below: S,
 }
 
@@ -65,7 +65,7 @@ impl<S> FinalSay<S> {
         ensures below { λ made. ⌜ made .below ≡ below ⌝ }
     {
         FinalSay {
-            says: [None; DAY],
+            says: [None; DAY_HOURS],
             below,
         }
     }
