@@ -1,4 +1,4 @@
-//! Plans: lines that ask for changes and readings, the service that they are tried on, and how all of it is told.
+//! Plans: lines that ask for changes and readings, and the service that they are tried on.
 
 pub mod book;
 pub mod day;

@@ -44,18 +44,30 @@ pub fn ledger_after(changes: &[Change]) -> BreakLedger
     ensures ran { λ made. ⌜ made .places .rows ≡ ran ledger-next no-places (now (changes .entry)) ⌝ }
     ensures within { λ _. ⌜ ((n h : ℕ) → hour-total (ran ledger-next no-places (take n (now (changes .entry)))) h ≤ hour-seconds) ⌝ }
 {
+    hours_stay_within(changes);
     let mut ledger = BreakLedger::new();
     run(&mut ledger, changes);
     ledger
 }
+
+/// The law of `ledger_after`.
+fn hours_stay_within(changes: &[Change])
+    ensures { λ _. ⌜ ((n h : ℕ) → hour-total (ran ledger-next no-places (take n (now (changes .entry)))) h ≤ hour-seconds) ⌝ }
+{}
 
 /// Carries out changes under final say.
 pub fn run_under_say<S: Service>(layer: &mut FinalSay<S>, changes: &[Change])
     ensures ran { λ _. ⌜ (now (layer .exit) .says, S·Service .meaning (now (layer .exit) .below)) ≡ ran (say-next (S·Service .next)) (now (layer .entry) .says, S·Service .meaning (now (layer .entry) .below)) (now (changes .entry)) ⌝ }
     ensures holds { λ _. ⌜ Say-holds (say-next (S·Service .next)) (now (layer .entry) .says, S·Service .meaning (now (layer .entry) .below)) (now (changes .entry)) ⌝ }
 {
+    say_is_kept(layer, changes);
     run(layer, changes);
 }
+
+/// The law of `run_under_say`.
+fn say_is_kept<S: Service>(layer: &FinalSay<S>, changes: &[Change])
+    ensures { λ _. ⌜ Say-holds (say-next (S·Service .next)) (now (layer .entry) .says, S·Service .meaning (now (layer .entry) .below)) (now (changes .entry)) ⌝ }
+{}
 
 /// An hour at 700 seconds and an empty account of it: the outcomes of putting 20 seconds there, or 21 instead.
 pub fn near_the_limit() -> ((u32, u32), (u32, u32))
