@@ -12,6 +12,22 @@ use Rattle.std.proofs.shelf.Tests.{both-ways, cases-bool, and-parts, and-cases,
 use Rattle.ranking.specs.Ranking.{Is-first, First-among, ahead, leads}
 use Rattle.ranking.proofs.Places.{earlier-or-last}
 
+module _ {X : Type 0} (eligible : X → Bool) (before : X → X → Bool) (xs : List X) (n : ℕ) (x : X) (at : nth xs n ≡ Some x) where
+  pub keeps : (p : Option ℕ) → First-among eligible before xs n p → (eligible x ≡ false) ⊎ (leads before xs p x ≡ false) → First-among eligible before xs (n + 1) p
+  keeps None h f =
+      λ k z l e. ⊎-elim (λ m. h k z m e) (λ (s : x ≡ z). ⊎-elim (λ c. ap eligible (sym s) ∙ c) (λ t. absurd (both-ways true t refl)) f) (earlier-or-last xs n k x z at l e)
+  keeps (Some i) h f = record {
+    within = omega (arith, h .within);
+    entry = h .entry;
+    stands = h .stands;
+    counts = h .counts;
+    unbeaten = λ k z l e d.
+        ⊎-elim (λ m. h .unbeaten k z m e d)
+        (λ (s : x ≡ z). ⊎-elim (λ c. absurd (both-ways (eligible z) (ap eligible (sym s) ∙ c) d)) (λ t. ap (λ w. before w (h .entry)) (sym s) ∙ sym (ap (ahead before x) (h .stands)) ∙ t) f)
+        (earlier-or-last xs n k x z at l e);
+    lowest = h .lowest;
+  }
+
 module _ {X : Type 0} {before : X → X → Bool} (asymmetric : (x y : X) → before x y ≡ true → before y x ≡ false) (chains : (x y z : X) → before x y ≡ false → before y z ≡ false → before x z ≡ false) where
   not-itself : (x : X) → before x x ≡ false
   not-itself x = ⊎-elim (asymmetric x x) (λ h. h) (cases-bool (before x x))
@@ -35,23 +51,8 @@ module _ {X : Type 0} {before : X → X → Bool} (asymmetric : (x y : X) → be
       lowest = before-all p h t;
     }
 
-    pub keeps : (p : Option ℕ) → First-among eligible before xs n p → (eligible x ≡ false) ⊎ (leads before xs p x ≡ false) → First-among eligible before xs (n + 1) p
-    keeps None h f =
-        λ k z l e. ⊎-elim (λ m. h k z m e) (λ (s : x ≡ z). ⊎-elim (λ c. ap eligible (sym s) ∙ c) (λ t. absurd (both-ways true t refl)) f) (earlier-or-last xs n k x z at l e)
-    keeps (Some i) h f = record {
-      within = omega (arith, h .within);
-      entry = h .entry;
-      stands = h .stands;
-      counts = h .counts;
-      unbeaten = λ k z l e d.
-          ⊎-elim (λ m. h .unbeaten k z m e d)
-          (λ (s : x ≡ z). ⊎-elim (λ c. absurd (both-ways (eligible z) (ap eligible (sym s) ∙ c) d)) (λ t. ap (λ w. before w (h .entry)) (sym s) ∙ sym (ap (ahead before x) (h .stands)) ∙ t) f)
-          (earlier-or-last xs n k x z at l e);
-      lowest = h .lowest;
-    }
-
     pub more : (p : Option ℕ) → First-among eligible before xs n p → First-among eligible before xs (n + 1) (cond (eligible x && leads before xs p x) (Some n) p)
     more p h =
         cond-both (eligible x && leads before xs p x) (Some n) p (First-among eligible before xs (n + 1))
         (λ t. let both = and-parts (eligible x) (leads before xs p x) t in takes p h (both .0) (both .1))
-        (λ f. keeps p h (and-cases (eligible x) (leads before xs p x) f))
+        (λ f. keeps eligible before xs n x at p h (and-cases (eligible x) (leads before xs p x) f))

@@ -5,7 +5,7 @@ use native.Mathlib.Omega.{arith}
 use lib.ListN.{length}
 use Rattle.std.specs.declared.option.Option.{Option}
 use Rattle.std.proofs.shelf.Maps.{nth-read}
-use Rattle.ranking.specs.Ranking.{First-among}
+use Rattle.ranking.specs.Ranking.{First-among, leads}
 use Rattle.ranking.proofs.Places.{place-within}
 use Rattle.ranking.proofs.Firsts.{only-first, any-order}
 use Rattle.ranking.proofs.Steps.{takes, keeps}
@@ -14,9 +14,6 @@ use Rattle.ranking.proofs.rank.first_in_rank.Needs.{then-is-eligible·then-lea
 
 pub leads-requires : need.leads-requires
 leads-requires g c κs = place-within (g .T·Ranked .eligible) (g .T·Ranked .before) (c .args .entries .now) (c .loop-i .i) (c .loop-i .first) (omega arith) (c .loop-i .inv)
-
-pub loop-i-holds : need.loop-i-holds
-loop-i-holds g c = λ k z l. absurd (omega arith)
 
 pub loop-i-again : need.loop-i-again
 loop-i-again g c =
@@ -30,13 +27,13 @@ loop-i-again g c =
     let Now : Option ℕ → Type 0 = First-among (m .eligible) (m .before) xs (i + 1) in
     elim (c .if-is-eligible .came) [
       | then-is-eligible·then-leads w ↦
-          subst Now (sym (w .first-is)) (takes (laws .asymmetric) (laws .chains) (m .eligible) xs i x at first (c .loop-i .inv) (sym (w .if-is-eligible .ensures tt)) (sym (w .if-leads .ensures tt)))
+          subst Now (sym (w .first-is)) (takes (laws .asymmetric) (laws .chains) (m .eligible) xs i x at first (c .loop-i .inv) (sym {b = m .eligible x} (w .if-is-eligible .ensures tt)) (sym {b = leads (m .before) xs first x} (w .if-leads .ensures tt)))
       | else-is-eligible w ↦
           subst Now (sym (w .first-is))
-          (keeps (laws .asymmetric) (laws .chains) (m .eligible) xs i x at first (c .loop-i .inv)
+          (keeps (m .eligible) (m .before) xs i x at first (c .loop-i .inv)
           (elim (w .else-is-eligible .came) [
-            | else-is-eligible·by·then-is-eligible·else-leads v ↦ inr (sym (v .if-leads .ensures tt))
-            | else-is-eligible·by·else-is-eligible v ↦ inl (sym (v .if-is-eligible .ensures tt))
+            | else-is-eligible·by·then-is-eligible·else-leads v ↦ inr (sym {b = leads (m .before) xs first x} (v .if-leads .ensures tt))
+            | else-is-eligible·by·else-is-eligible v ↦ inl (sym {b = m .eligible x} (v .if-is-eligible .ensures tt))
           ]))
     ]
 
