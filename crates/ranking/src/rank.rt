@@ -11,8 +11,10 @@ pub trait Ranked {
 
     ghost before: { Self → Self → Bool };
 
+    // Never are two each before the other.
     law asymmetric: { (x y : Self) → before x y ≡ true → before y x ≡ false };
 
+    // With it, `before` and being tied both go on from entry to entry.
     law chains: { (x y z : Self) → before x y ≡ false → before y z ≡ false → before x z ≡ false };
 
     /// Whether the entry takes part.
