@@ -1,0 +1,3 @@
+mod Firsts
+mod Places
+mod Steps
