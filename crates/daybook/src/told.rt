@@ -110,7 +110,7 @@ fn done<W: fmt::Write>(f: &mut fmt::Formatter<W>, change: &Change, second: u32) 
 }
 
 /// A short name for the first number of an outcome.
-pub fn outcome_name(number: u32) -> &'static str {
+pub(crate) fn outcome_name(number: u32) -> &'static str {
     match Answer::of(number) {
         Some(Answer::Done) => "done",
         Some(Answer::Occupied) => "refused, the place was taken",

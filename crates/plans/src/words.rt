@@ -6,14 +6,14 @@ use schedule::Department;
 use schedule::Kind;
 
 /// The number that a word writes in decimal.
-pub fn number(word: &str) -> Option<u32>
+pub(crate) fn number(word: &str) -> Option<u32>
     ensures { λ n. ⌜ n ≡ number-of (now (word .entry)) ⌝ }
 {
     word.parse::<u32>().ok()
 }
 
 /// The number of a department, given by its name or as any number.
-pub fn department(word: &str) -> Option<u32>
+pub(crate) fn department(word: &str) -> Option<u32>
     ensures { λ n. ⌜ n ≡ department-named (now (word .entry)) ⌝ }
 {
     match word {
@@ -24,7 +24,7 @@ pub fn department(word: &str) -> Option<u32>
 }
 
 /// The number of a kind, given by its name or as any number.
-pub fn kind(word: &str) -> Option<u32>
+pub(crate) fn kind(word: &str) -> Option<u32>
     ensures { λ n. ⌜ n ≡ kind-named (now (word .entry)) ⌝ }
 {
     match word {

@@ -18,7 +18,7 @@ pub struct Places {
 
 impl Places {
     /// Places that are all empty.
-    pub fn new() -> Places
+    pub(crate) fn new() -> Places
         ensures { λ made. ⌜ made .rows ≡ no-places ⌝ }
     {
         Places {
@@ -27,7 +27,7 @@ impl Places {
     }
 
     /// What the place holds, 0 outside the limits.
-    pub fn at(&self, hour: u32, slot: u32) -> u32
+    pub(crate) fn at(&self, hour: u32, slot: u32) -> u32
         ensures { λ n. ⌜ n ≡ place (now (self .entry) .rows) hour slot ⌝ }
     {
         if hour < HOURS && slot < SLOTS {
@@ -38,7 +38,7 @@ impl Places {
     }
 
     /// Has the place hold a value; outside the limits nothing changes.
-    pub fn put(&mut self, hour: u32, slot: u32, value: u32)
+    pub(crate) fn put(&mut self, hour: u32, slot: u32, value: u32)
         ensures { λ _. ⌜ now (self .exit) .rows ≡ with-place (now (self .entry) .rows) hour slot value ⌝ }
     {
         if hour < HOURS && slot < SLOTS {

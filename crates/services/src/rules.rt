@@ -10,7 +10,7 @@ use schedule::Kind;
 pub const HOUR_SECONDS: u32 = 720;
 
 /// What a change asks for, if all its numbers are within their limits.
-pub fn asks(change: &Change) -> Option<Kind>
+pub(crate) fn asks(change: &Change) -> Option<Kind>
     ensures { λ kind. ⌜ Asked (now (change .entry)) kind ⌝ }
 {
     if change.fits() {
@@ -32,7 +32,7 @@ fn passes(total: Option<u32>, held: u32, value: u32) -> bool
 
 /// What the place holds after the change, or why it is refused and what is told besides.
 /// `total` is what the whole hour holds, for a make that limits it. The first line that fits decides.
-pub fn judge(change: &Change, held: u32, total: Option<u32>) -> Result<u32, (Answer, u32)>
+pub(crate) fn judge(change: &Change, held: u32, total: Option<u32>) -> Result<u32, (Answer, u32)>
     ensures { λ ruling. ⌜ ruling ≡ judged (now (change .entry)) held total ⌝ }
 {
     let value = change.value;
