@@ -1,3 +1,4 @@
+pub mod Claiming
 pub mod Holding
 pub mod Limit
 pub mod Within

@@ -4,12 +4,12 @@ use mathlib.Core.List.{List, [], _∷_}
 use mathlib.Core.Path.{_≡_}
 use Prim.Native.Nat.{ℕ}
 use lib.Dec.{eqb}
-use lib.ListN.{take, drop}
+use lib.ListN.{length, take, drop}
 use Rattle.std.specs.declared.result.Result.{Result}
 use Rattle.std.specs.declared.result.Result.the-variants.{Ok, Err}
-use Rattle.schedule.specs.Changes.{department-fits, hour-fits, slot-fits, kind-number}
+use Rattle.schedule.specs.Changes.{department-fits, hours, hour-fits, slot-fits, kind-number}
 use Rattle.schedule.specs.declared.change.Change.{Change}
-use Rattle.schedule.specs.declared.change.Kind.the-variants.{Put, Yield}
+use Rattle.schedule.specs.declared.change.Kind.the-variants.{Put, Claim, Yield}
 use Rattle.services.specs.Makes.{ledger-outcome}
 use Rattle.services.specs.Places.{Table, place, hour-total}
 use Rattle.services.specs.Rules.{is}
@@ -53,6 +53,11 @@ abbrev pub Say-holds : {B : Type 0} → (Says × B → Change → Says × B) →
 Say-holds next state cs =
     (from count h d : ℕ) → (d ≡ 0 → ⊥) → say-at (ran next state (take from cs) .0) h ≡ d → never-yields h d (take count (drop from cs)) ≡ true
     → Say-kept next (ran next state (take from cs)) (take count (drop from cs)) h d
+
+-- a claim that is done gives its department the say of the hour
+abbrev pub Claim-gives : {B : Type 0} → (Says × B → Change → Says × B) → (Says × B → Change → ℕ × ℕ) → Type 0
+Claim-gives {B} next outcome =
+    (state : Says × B) (c : Change) → length (state .0) ≡ hours → is c Claim ≡ true → outcome state c .0 ≡ 0 → say-at (next state c .0) (c .hour) ≡ c .department
 
 abbrev pub put-of : ℕ → ℕ → ℕ → ℕ → Change
 put-of d h s v = record { department = d; kind = kind-number Put; hour = h; slot = s; value = v }

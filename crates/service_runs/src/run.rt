@@ -5,10 +5,10 @@ ghost use mathlib.Core.Bool.{true};
 ghost use mathlib.Core.Path.{_≡_};
 ghost use lib.ListN.{take};
 ghost use Rattle.std.specs.Results.{isErr};
-ghost use Rattle.service_runs.specs.Laws.{as-result, Near-the-limit, Say-holds, put-of, ran};
+ghost use Rattle.service_runs.specs.Laws.{as-result, Claim-gives, Near-the-limit, Say-holds, put-of, ran};
 ghost use Rattle.services.specs.Makes.{ledger-next};
 ghost use Rattle.services.specs.Places.{no-places, hour-seconds, hour-total};
-ghost use Rattle.services.specs.Say.{say-next};
+ghost use Rattle.services.specs.Say.{say-next, say-outcome};
 use crate::steady::Steady;
 use schedule::Change;
 use schedule::Kind;
@@ -58,13 +58,20 @@ fn hours_stay_within(changes: &[Change])
 /// Carries out changes under final say.
 pub fn run_under_say<S: Service>(layer: &mut FinalSay<S>, changes: &[Change])
     ensures ran { λ _. ⌜ (now (layer .exit) .says, S·Service .meaning (now (layer .exit) .below)) ≡ ran (say-next (S·Service .next)) (now (layer .entry) .says, S·Service .meaning (now (layer .entry) .below)) (now (changes .entry)) ⌝ }
+    ensures gives { λ _. ⌜ Claim-gives (say-next (S·Service .next)) (say-outcome (S·Service .outcome)) ⌝ }
     ensures holds { λ _. ⌜ Say-holds (say-next (S·Service .next)) (now (layer .entry) .says, S·Service .meaning (now (layer .entry) .below)) (now (changes .entry)) ⌝ }
 {
+    claim_gives_the_say(layer);
     say_is_kept(layer, changes);
     run(layer, changes);
 }
 
-/// The law of `run_under_say`.
+/// The first law of `run_under_say`.
+fn claim_gives_the_say<S: Service>(_layer: &FinalSay<S>)
+    ensures { λ _. ⌜ Claim-gives (say-next (S·Service .next)) (say-outcome (S·Service .outcome)) ⌝ }
+{}
+
+/// The second law of `run_under_say`.
 fn say_is_kept<S: Service>(layer: &FinalSay<S>, changes: &[Change])
     ensures { λ _. ⌜ Say-holds (say-next (S·Service .next)) (now (layer .entry) .says, S·Service .meaning (now (layer .entry) .below)) (now (changes .entry)) ⌝ }
 {}
