@@ -1,0 +1,4 @@
+pub mod Forms
+pub mod Hexadecimal
+pub mod Labels
+pub mod Numbers

@@ -1,0 +1,152 @@
+//! A message as text in words.
+
+use crate::fields::label;
+use crate::fields::show_number;
+use crate::form::Form;
+use crate::promises::show_detached;
+use crate::promises::show_pairs;
+use line_format::Field;
+use line_format::Message;
+use line_format::Promises;
+use schedule::Change;
+use schedule::ControllerSet;
+use std::fmt;
+
+/// A space, and then the name of a field and `=`.
+fn show_label(field: Field, out: &mut String) -> fmt::Result {
+    let name = label(field);
+    write!(out, " {name}=")
+}
+
+fn show_field(field: Field, number: u32, out: &mut String) -> fmt::Result {
+    show_label(field, out)?;
+    show_number(field, number, out)
+}
+
+/// Fields, each with its number.
+fn show_numbers(fields: &[(Field, u32)], out: &mut String) -> fmt::Result {
+    for (field, number) in fields {
+        show_field(*field, *number, out)?;
+    }
+    Ok(())
+}
+
+/// What MPayload and MPropose have in common.
+fn show_change(
+    sender: u32,
+    id: u32,
+    change: &Change,
+    set: &ControllerSet,
+    out: &mut String,
+) -> fmt::Result {
+    show_numbers(
+        &[
+            (Field::Sender, sender),
+            (Field::Id, id),
+            (Field::Department, change.department),
+            (Field::Kind, change.kind),
+            (Field::Hour, change.hour),
+            (Field::Slot, change.slot),
+            (Field::Value, change.value),
+            (Field::Set, set.bits),
+        ],
+        out,
+    )
+}
+
+fn show_promises(sender: u32, promises: &Promises, out: &mut String) -> fmt::Result {
+    show_numbers(&[(Field::Sender, sender)], out)?;
+    show_label(Field::Detached, out)?;
+    show_detached(&promises.detached, out)?;
+    show_label(Field::Pairs, out)?;
+    show_pairs(promises, out)
+}
+
+/// Adds a message's fields to a text.
+fn show_fields(message: &Message, out: &mut String) -> fmt::Result {
+    match message {
+        Message::MPayload {
+            sender,
+            id,
+            change,
+            set,
+        } => show_change(*sender, *id, change, set, out),
+        Message::MPropose {
+            sender,
+            id,
+            change,
+            set,
+            timestamp,
+        } => {
+            show_change(*sender, *id, change, set, out)?;
+            show_numbers(&[(Field::Timestamp, *timestamp)], out)
+        }
+        Message::MProposeAck {
+            sender,
+            id,
+            timestamp,
+        }
+        | Message::MCommit {
+            sender,
+            id,
+            timestamp,
+        } => show_numbers(
+            &[
+                (Field::Sender, *sender),
+                (Field::Id, *id),
+                (Field::Timestamp, *timestamp),
+            ],
+            out,
+        ),
+        Message::MConsensus {
+            sender,
+            id,
+            timestamp,
+            ballot,
+        } => show_numbers(
+            &[
+                (Field::Sender, *sender),
+                (Field::Id, *id),
+                (Field::Timestamp, *timestamp),
+                (Field::Ballot, *ballot),
+            ],
+            out,
+        ),
+        Message::MConsensusAck { sender, id, ballot } | Message::MRec { sender, id, ballot } => {
+            show_numbers(
+                &[
+                    (Field::Sender, *sender),
+                    (Field::Id, *id),
+                    (Field::Ballot, *ballot),
+                ],
+                out,
+            )
+        }
+        Message::MRecAck {
+            sender,
+            id,
+            timestamp,
+            phase,
+            accepted,
+            ballot,
+        } => show_numbers(
+            &[
+                (Field::Sender, *sender),
+                (Field::Id, *id),
+                (Field::Timestamp, *timestamp),
+                (Field::Phase, *phase),
+                (Field::Accepted, *accepted),
+                (Field::Ballot, *ballot),
+            ],
+            out,
+        ),
+        Message::MPromises { sender, promises } => show_promises(*sender, promises, out),
+    }
+}
+
+/// Adds a message in words to a text.
+pub fn show(message: &Message, out: &mut String) -> fmt::Result {
+    let name = Form::of(message).name();
+    write!(out, "{name}")?;
+    show_fields(message, out)
+}
