@@ -1,4 +1,10 @@
 pub mod Forms
 pub mod Hexadecimal
 pub mod Labels
+pub mod Lists
 pub mod Numbers
+pub mod Promises
+pub mod Reading
+pub mod Sets
+pub mod Showing
+pub mod Values

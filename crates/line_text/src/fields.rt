@@ -1,15 +1,21 @@
 //! A field as a word: its name, `=`, and its value.
 
 ghost use mathlib.Core.Path.{_≡_};
-ghost use Rattle.std.specs.Options.{mapped};
+ghost use mathlib.Core.List.{_++_};
+ghost use Rattle.std.specs.Of.String.{string-bytes};
+ghost use Rattle.std.specs.Options.{mapped, valueOr};
+ghost use Rattle.std.specs.Vec.{made};
+ghost use Rattle.std.specs.Written.{decimal};
 ghost use Rattle.line_text.specs.Labels.{label, department-word, kind-word, phase-word, word-of, department-number, kind-number, phase-number};
+ghost use Rattle.line_text.specs.Sets.{set-number};
+ghost use Rattle.line_text.specs.Values.{number-of, number-text, value-in, told};
 use crate::fault::NotUnderstood;
 use crate::lists::SetGathering;
+use crate::lists::cut;
 use crate::lists::gather;
 use crate::lists::show_set;
 use crate::number::number;
 use line_format::Field;
-use line_format::limits::FieldPartialEq;
 use schedule::ControllerSet;
 use schedule::Department;
 use schedule::Kind;
@@ -122,7 +128,9 @@ fn phase_number(text: &str) -> Option<u32>
     }
 }
 
-fn set_number(text: &str) -> Option<u32> {
+fn set_number(text: &str) -> Option<u32>
+    ensures { λ answer. ⌜ answer ≡ set-number (now (text .entry)) ⌝ }
+{
     match gather(ControllerSet { bits: 0 }, text) {
         Some(set) => Some(set.bits),
         None => None,
@@ -130,7 +138,9 @@ fn set_number(text: &str) -> Option<u32> {
 }
 
 /// The number that a field's value stands for.
-pub fn number_of(field: Field, text: &str) -> Option<u32> {
+pub fn number_of(field: Field, text: &str) -> Option<u32>
+    ensures { λ answer. ⌜ answer ≡ number-of field (now (text .entry)) ⌝ }
+{
     match field {
         Field::Department => department_number(text),
         Field::Kind => kind_number(text),
@@ -140,21 +150,36 @@ pub fn number_of(field: Field, text: &str) -> Option<u32> {
     }
 }
 
-/// A field's value as text: a word or a set's members where the field has such, else the number.
-pub fn show_number(field: Field, number: u32, out: &mut String) -> fmt::Result {
-    if field == Field::Set {
-        return show_set(&ControllerSet { bits: number }, out);
-    }
-    match word_of(field, number) {
-        Some(word) => write!(out, "{word}"),
+/// A word where there is one, else the number.
+fn show_word(word: Option<&str>, number: u32, out: &mut String) -> fmt::Result
+    ensures { λ answer. ⌜ made answer (λ _. string-bytes (now (out .exit)) ≡ string-bytes (now (out .entry)) ++ valueOr (mapped now (word .entry)) (decimal number)) ⌝ }
+{
+    match word {
+        Some(name) => write!(out, "{name}"),
         None => write!(out, "{number}"),
     }
 }
 
+/// A field's value as text: a word or a set's members where the field has such, else the number.
+pub fn show_number(field: Field, number: u32, out: &mut String) -> fmt::Result
+    ensures { λ answer. ⌜ made answer (λ _. string-bytes (now (out .exit)) ≡ string-bytes (now (out .entry)) ++ number-text field number) ⌝ }
+{
+    match field {
+        Field::Set => show_set(&ControllerSet { bits: number }, out),
+        _ => show_word(word_of(field, number), number, out),
+    }
+}
+
 /// The value in a word that should be this field.
-pub fn value_in<'a>(field: Field, word: &'a str) -> Result<&'a str, NotUnderstood> {
-    match word.split_once('=') {
-        Some((name, value)) if name == label(field) => Ok(value),
-        _ => Err(NotUnderstood::Expected(field)),
+pub fn value_in<'a>(field: Field, word: &'a str) -> Result<&'a str, NotUnderstood>
+    ensures { λ answer. ⌜ told now answer ≡ value-in field (now (word .entry)) ⌝ }
+{
+    let Some((name, value)) = cut(word, '=') else {
+        return Err(NotUnderstood::Expected(field));
+    };
+    if name == label(field) {
+        Ok(value)
+    } else {
+        Err(NotUnderstood::Expected(field))
     }
 }

@@ -1,6 +1,13 @@
 //! The promises of a message: detached timestamps as ranges, and pairs.
 
+ghost use mathlib.Core.Path.{_≡_};
+ghost use mathlib.Core.List.{_++_};
+ghost use Rattle.std.specs.Of.String.{string-bytes};
+ghost use Rattle.std.specs.Vec.{made};
+ghost use Rattle.line_text.specs.Promises.{has, with-range, range-in, with-detached, none-yet, pair-in, with-next, with-pair, range-text, detached-text, pair-text, pairs-text};
 use crate::lists::Gathering;
+use crate::lists::cut;
+use crate::lists::finish;
 use crate::lists::part;
 use crate::number::number;
 use line_format::Pair;
@@ -20,12 +27,16 @@ pub struct Detached {
 
 impl Detached {
     /// Whether timestamp t is among them.
-    fn contains(&self, t: u32) -> bool {
+    fn contains(&self, t: u32) -> bool
+        ensures { λ answer. ⌜ answer ≡ has (now (self .entry) .words) t ⌝ }
+    {
         t >= 1 && t <= BITS && (self.words[(t as usize - 1) / 64] >> ((t - 1) % 64)) % 2 == 1
     }
 
     /// With the timestamps from first to last.
-    fn with_range(self, first: u32, last: u32) -> Option<Detached> {
+    fn with_range(self, first: u32, last: u32) -> Option<Detached>
+        ensures { λ answer. ⌜ answer ≡ with-range self first last ⌝ }
+    {
         if first < 1 || last < first || last > BITS {
             return None;
         }
@@ -38,15 +49,25 @@ impl Detached {
     }
 }
 
-pub impl Gathering for Detached as DetachedGathering {
-    fn with(self, piece: &str) -> Option<Detached> {
-        match piece.split_once('-') {
-            Some((first, last)) => self.with_range(number(first)?, number(last)?),
-            None => {
-                let only = number(piece)?;
-                self.with_range(only, only)
-            }
+/// The first and the last timestamp of a range: two numbers, or one.
+fn range(text: &str) -> Option<(u32, u32)>
+    ensures { λ answer. ⌜ answer ≡ range-in (now (text .entry)) ⌝ }
+{
+    match cut(text, '-') {
+        Some((first, last)) => Some((number(first)?, number(last)?)),
+        None => {
+            let only = number(text)?;
+            Some((only, only))
         }
+    }
+}
+
+pub impl Gathering for Detached as DetachedGathering {
+    ghost adds = { with-detached };
+
+    fn with(self, piece: &str) -> Option<Detached> {
+        let (first, last) = range(piece)?;
+        self.with_range(first, last)
     }
 }
 
@@ -59,7 +80,9 @@ pub struct Pairs {
 
 impl Pairs {
     /// No pairs.
-    pub fn none() -> Pairs {
+    pub fn none() -> Pairs
+        ensures { λ answer. ⌜ answer ≡ none-yet ⌝ }
+    {
         Pairs {
             count: 0,
             pairs: [Pair {
@@ -68,10 +91,32 @@ impl Pairs {
             }; PAIRS],
         }
     }
+
+    /// With one pair more; past the last place only the count tells.
+    fn with_next(self, next: Pair) -> Pairs
+        ensures { λ answer. ⌜ answer ≡ with-next self next ⌝ }
+    {
+        let mut pairs = self.pairs;
+        let count = self.count as usize;
+        if count < PAIRS {
+            pairs[count] = next;
+            Pairs {
+                count: self.count + 1,
+                pairs,
+            }
+        } else {
+            Pairs {
+                count: PAIRS as u32 + 1,
+                pairs,
+            }
+        }
+    }
 }
 
-fn pair(text: &str) -> Option<Pair> {
-    let (id, timestamp) = text.split_once(':')?;
+fn pair(text: &str) -> Option<Pair>
+    ensures { λ answer. ⌜ answer ≡ pair-in (now (text .entry)) ⌝ }
+{
+    let (id, timestamp) = cut(text, ':')?;
     Some(Pair {
         id: number(id)?,
         timestamp: number(timestamp)?,
@@ -79,26 +124,17 @@ fn pair(text: &str) -> Option<Pair> {
 }
 
 pub impl Gathering for Pairs as PairsGathering {
+    ghost adds = { with-pair };
+
     fn with(self, piece: &str) -> Option<Pairs> {
         let next = pair(piece)?;
-        let mut pairs = self.pairs;
-        let count = self.count as usize;
-        if count < PAIRS {
-            pairs[count] = next;
-            Some(Pairs {
-                count: self.count + 1,
-                pairs,
-            })
-        } else {
-            Some(Pairs {
-                count: PAIRS as u32 + 1,
-                pairs,
-            })
-        }
+        Some(self.with_next(next))
     }
 }
 
-fn show_range(first: u32, last: u32, out: &mut String) -> fmt::Result {
+fn show_range(first: u32, last: u32, out: &mut String) -> fmt::Result
+    ensures { λ answer. ⌜ made answer (λ _. string-bytes (now (out .exit)) ≡ string-bytes (now (out .entry)) ++ range-text (first, last)) ⌝ }
+{
     if first == last {
         write!(out, "{first}")
     } else {
@@ -107,38 +143,52 @@ fn show_range(first: u32, last: u32, out: &mut String) -> fmt::Result {
 }
 
 /// Detached timestamps as ranges.
-pub fn show_detached(words: &[u64; WORDS], out: &mut String) -> fmt::Result {
+pub fn show_detached(words: &[u64; WORDS], out: &mut String) -> fmt::Result
+    ensures { λ answer. ⌜ made answer (λ _. string-bytes (now (out .exit)) ≡ string-bytes (now (out .entry)) ++ detached-text (now (words .entry))) ⌝ }
+{
     let detached = Detached { words: *words };
     let mut first = true;
     let mut run = None;
     for t in 1..BITS + 2 {
+        let inside = detached.contains(t);
         match run {
-            None if detached.contains(t) => run = Some(t),
-            Some(begin) if !detached.contains(t) => {
-                part(first, out)?;
-                show_range(begin, t - 1, out)?;
-                first = false;
-                run = None;
+            None => {
+                if inside {
+                    run = Some(t);
+                }
             }
-            _ => {}
+            Some(begin) => {
+                if !inside {
+                    part(first, out)?;
+                    show_range(begin, t - 1, out)?;
+                    first = false;
+                    run = None;
+                }
+            }
         }
     }
-    if first { write!(out, "none") } else { Ok(()) }
+    finish(first, out)
+}
+
+fn show_pair(pair: &Pair, out: &mut String) -> fmt::Result
+    ensures { λ answer. ⌜ made answer (λ _. string-bytes (now (out .exit)) ≡ string-bytes (now (out .entry)) ++ pair-text (now (pair .entry))) ⌝ }
+{
+    let id = pair.id;
+    let timestamp = pair.timestamp;
+    write!(out, "{id}:{timestamp}")
 }
 
 /// Pairs as text.
-pub fn show_pairs(promises: &Promises, out: &mut String) -> fmt::Result {
+pub fn show_pairs(promises: &Promises, out: &mut String) -> fmt::Result
+    ensures { λ answer. ⌜ made answer (λ _. string-bytes (now (out .exit)) ≡ string-bytes (now (out .entry)) ++ pairs-text (now (promises .entry))) ⌝ }
+{
     let count = (promises.count as usize).min(PAIRS);
-    if count == 0 {
-        return write!(out, "none");
-    }
+    let (used, _) = promises.pairs.split_at(count);
     let mut first = true;
-    for pair in &promises.pairs[0..count] {
+    for pair in used {
         part(first, out)?;
-        let id = pair.id;
-        let timestamp = pair.timestamp;
-        write!(out, "{id}:{timestamp}")?;
+        show_pair(pair, out)?;
         first = false;
     }
-    Ok(())
+    finish(first, out)
 }

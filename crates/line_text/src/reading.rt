@@ -1,5 +1,11 @@
 //! Reading a message from its words.
 
+ghost use mathlib.Core.Path.{_≡_};
+ghost use Rattle.std.specs.Of.Vec.{vec-items};
+ghost use Rattle.std.specs.Vec.{made};
+ghost use Rattle.line_text.specs.Lists.{words};
+ghost use Rattle.line_text.specs.Reading.{texts, value-at, number-at, ended, change-at, set-at, detached-at, pairs-at, payload, propose, propose-ack, commit, consensus, consensus-ack, recover, recover-ack, promises, said};
+ghost use Rattle.line_text.specs.Values.{told};
 use crate::fault::NotUnderstood;
 use crate::fields::number_of;
 use crate::fields::value_in;
@@ -19,7 +25,9 @@ use std::alloc::AllocError;
 use std::alloc::Global;
 
 /// The words of a line: what stands between its spaces.
-pub fn words<'a>(heap: Global, line: &'a str) -> Result<Vec<&'a str>, AllocError> {
+pub fn words<'a>(heap: Global, line: &'a str) -> Result<Vec<&'a str>, AllocError>
+    ensures { λ answer. ⌜ made answer (λ given. texts (vec-items given) ≡ words (now (line .entry))) ⌝ }
+{
     let mut words = Vec::new(heap);
     for word in line.split(' ') {
         if !word.is_empty() {
@@ -30,7 +38,9 @@ pub fn words<'a>(heap: Global, line: &'a str) -> Result<Vec<&'a str>, AllocError
 }
 
 /// The value of the field that should stand at a place.
-fn value_at<'a>(words: &[&'a str], at: usize, field: Field) -> Result<&'a str, NotUnderstood> {
+fn value_at<'a>(words: &[&'a str], at: usize, field: Field) -> Result<&'a str, NotUnderstood>
+    ensures { λ answer. ⌜ told now answer ≡ value-at (texts (now (words .entry))) at field ⌝ }
+{
     if at < words.len() {
         value_in(field, words[at])
     } else {
@@ -39,7 +49,9 @@ fn value_at<'a>(words: &[&'a str], at: usize, field: Field) -> Result<&'a str, N
 }
 
 /// The number of the field that should stand at a place.
-fn number_at(words: &[&str], at: usize, field: Field) -> Result<u32, NotUnderstood> {
+fn number_at(words: &[&str], at: usize, field: Field) -> Result<u32, NotUnderstood>
+    ensures { λ answer. ⌜ answer ≡ number-at (texts (now (words .entry))) at field ⌝ }
+{
     match number_of(field, value_at(words, at, field)?) {
         Some(number) => Ok(number),
         None => Err(NotUnderstood::Value(field)),
@@ -47,7 +59,9 @@ fn number_at(words: &[&str], at: usize, field: Field) -> Result<u32, NotUndersto
 }
 
 /// A message whose last field is the last word.
-fn ended(words: &[&str], length: usize, message: Message) -> Result<Message, NotUnderstood> {
+fn ended(words: &[&str], length: usize, message: Message) -> Result<Message, NotUnderstood>
+    ensures { λ answer. ⌜ answer ≡ ended (texts (now (words .entry))) length message ⌝ }
+{
     if words.len() > length {
         Err(NotUnderstood::Leftover)
     } else {
@@ -55,7 +69,9 @@ fn ended(words: &[&str], length: usize, message: Message) -> Result<Message, Not
     }
 }
 
-fn change_at(words: &[&str]) -> Result<Change, NotUnderstood> {
+fn change_at(words: &[&str]) -> Result<Change, NotUnderstood>
+    ensures { λ answer. ⌜ answer ≡ change-at (texts (now (words .entry))) ⌝ }
+{
     Ok(Change {
         department: number_at(words, 3, Field::Department)?,
         kind: number_at(words, 4, Field::Kind)?,
@@ -65,13 +81,17 @@ fn change_at(words: &[&str]) -> Result<Change, NotUnderstood> {
     })
 }
 
-fn set_at(words: &[&str]) -> Result<ControllerSet, NotUnderstood> {
+fn set_at(words: &[&str]) -> Result<ControllerSet, NotUnderstood>
+    ensures { λ answer. ⌜ answer ≡ set-at (texts (now (words .entry))) ⌝ }
+{
     Ok(ControllerSet {
         bits: number_at(words, 8, Field::Set)?,
     })
 }
 
-fn detached_at(words: &[&str]) -> Result<Detached, NotUnderstood> {
+fn detached_at(words: &[&str]) -> Result<Detached, NotUnderstood>
+    ensures { λ answer. ⌜ answer ≡ detached-at (texts (now (words .entry))) ⌝ }
+{
     match gather(
         Detached { words: [0; WORDS] },
         value_at(words, 2, Field::Detached)?,
@@ -81,14 +101,18 @@ fn detached_at(words: &[&str]) -> Result<Detached, NotUnderstood> {
     }
 }
 
-fn pairs_at(words: &[&str]) -> Result<Pairs, NotUnderstood> {
+fn pairs_at(words: &[&str]) -> Result<Pairs, NotUnderstood>
+    ensures { λ answer. ⌜ answer ≡ pairs-at (texts (now (words .entry))) ⌝ }
+{
     match gather(Pairs::none(), value_at(words, 3, Field::Pairs)?) {
         Some(pairs) => Ok(pairs),
         None => Err(NotUnderstood::Value(Field::Pairs)),
     }
 }
 
-fn payload(words: &[&str]) -> Result<Message, NotUnderstood> {
+fn payload(words: &[&str]) -> Result<Message, NotUnderstood>
+    ensures { λ answer. ⌜ answer ≡ payload (texts (now (words .entry))) ⌝ }
+{
     let sender = number_at(words, 1, Field::Sender)?;
     let id = number_at(words, 2, Field::Id)?;
     let change = change_at(words)?;
@@ -102,7 +126,9 @@ fn payload(words: &[&str]) -> Result<Message, NotUnderstood> {
     ended(words, 9, message)
 }
 
-fn propose(words: &[&str]) -> Result<Message, NotUnderstood> {
+fn propose(words: &[&str]) -> Result<Message, NotUnderstood>
+    ensures { λ answer. ⌜ answer ≡ propose (texts (now (words .entry))) ⌝ }
+{
     let sender = number_at(words, 1, Field::Sender)?;
     let id = number_at(words, 2, Field::Id)?;
     let change = change_at(words)?;
@@ -118,7 +144,9 @@ fn propose(words: &[&str]) -> Result<Message, NotUnderstood> {
     ended(words, 10, message)
 }
 
-fn propose_ack(words: &[&str]) -> Result<Message, NotUnderstood> {
+fn propose_ack(words: &[&str]) -> Result<Message, NotUnderstood>
+    ensures { λ answer. ⌜ answer ≡ propose-ack (texts (now (words .entry))) ⌝ }
+{
     let sender = number_at(words, 1, Field::Sender)?;
     let id = number_at(words, 2, Field::Id)?;
     let timestamp = number_at(words, 3, Field::Timestamp)?;
@@ -130,7 +158,9 @@ fn propose_ack(words: &[&str]) -> Result<Message, NotUnderstood> {
     ended(words, 4, message)
 }
 
-fn commit(words: &[&str]) -> Result<Message, NotUnderstood> {
+fn commit(words: &[&str]) -> Result<Message, NotUnderstood>
+    ensures { λ answer. ⌜ answer ≡ commit (texts (now (words .entry))) ⌝ }
+{
     let sender = number_at(words, 1, Field::Sender)?;
     let id = number_at(words, 2, Field::Id)?;
     let timestamp = number_at(words, 3, Field::Timestamp)?;
@@ -142,7 +172,9 @@ fn commit(words: &[&str]) -> Result<Message, NotUnderstood> {
     ended(words, 4, message)
 }
 
-fn consensus(words: &[&str]) -> Result<Message, NotUnderstood> {
+fn consensus(words: &[&str]) -> Result<Message, NotUnderstood>
+    ensures { λ answer. ⌜ answer ≡ consensus (texts (now (words .entry))) ⌝ }
+{
     let sender = number_at(words, 1, Field::Sender)?;
     let id = number_at(words, 2, Field::Id)?;
     let timestamp = number_at(words, 3, Field::Timestamp)?;
@@ -156,7 +188,9 @@ fn consensus(words: &[&str]) -> Result<Message, NotUnderstood> {
     ended(words, 5, message)
 }
 
-fn consensus_ack(words: &[&str]) -> Result<Message, NotUnderstood> {
+fn consensus_ack(words: &[&str]) -> Result<Message, NotUnderstood>
+    ensures { λ answer. ⌜ answer ≡ consensus-ack (texts (now (words .entry))) ⌝ }
+{
     let sender = number_at(words, 1, Field::Sender)?;
     let id = number_at(words, 2, Field::Id)?;
     let ballot = number_at(words, 3, Field::Ballot)?;
@@ -164,7 +198,9 @@ fn consensus_ack(words: &[&str]) -> Result<Message, NotUnderstood> {
     ended(words, 4, message)
 }
 
-fn recover(words: &[&str]) -> Result<Message, NotUnderstood> {
+fn recover(words: &[&str]) -> Result<Message, NotUnderstood>
+    ensures { λ answer. ⌜ answer ≡ recover (texts (now (words .entry))) ⌝ }
+{
     let sender = number_at(words, 1, Field::Sender)?;
     let id = number_at(words, 2, Field::Id)?;
     let ballot = number_at(words, 3, Field::Ballot)?;
@@ -172,7 +208,9 @@ fn recover(words: &[&str]) -> Result<Message, NotUnderstood> {
     ended(words, 4, message)
 }
 
-fn recover_ack(words: &[&str]) -> Result<Message, NotUnderstood> {
+fn recover_ack(words: &[&str]) -> Result<Message, NotUnderstood>
+    ensures { λ answer. ⌜ answer ≡ recover-ack (texts (now (words .entry))) ⌝ }
+{
     let sender = number_at(words, 1, Field::Sender)?;
     let id = number_at(words, 2, Field::Id)?;
     let timestamp = number_at(words, 3, Field::Timestamp)?;
@@ -190,7 +228,9 @@ fn recover_ack(words: &[&str]) -> Result<Message, NotUnderstood> {
     ended(words, 7, message)
 }
 
-fn promises(words: &[&str]) -> Result<Message, NotUnderstood> {
+fn promises(words: &[&str]) -> Result<Message, NotUnderstood>
+    ensures { λ answer. ⌜ answer ≡ promises (texts (now (words .entry))) ⌝ }
+{
     let sender = number_at(words, 1, Field::Sender)?;
     let detached = detached_at(words)?.words;
     let given = pairs_at(words)?;
@@ -208,20 +248,24 @@ fn promises(words: &[&str]) -> Result<Message, NotUnderstood> {
 }
 
 /// The message that the words of a line say, whatever its numbers.
-pub fn read(words: &[&str]) -> Result<Message, NotUnderstood> {
+pub fn read(words: &[&str]) -> Result<Message, NotUnderstood>
+    ensures { λ answer. ⌜ answer ≡ said (texts (now (words .entry))) ⌝ }
+{
     if words.is_empty() {
         return Err(NotUnderstood::Name);
     }
-    match Form::named(words[0]) {
-        None => Err(NotUnderstood::Name),
-        Some(Form::MPayload) => payload(words),
-        Some(Form::MPropose) => propose(words),
-        Some(Form::MProposeAck) => propose_ack(words),
-        Some(Form::MCommit) => commit(words),
-        Some(Form::MConsensus) => consensus(words),
-        Some(Form::MConsensusAck) => consensus_ack(words),
-        Some(Form::MRec) => recover(words),
-        Some(Form::MRecAck) => recover_ack(words),
-        Some(Form::MPromises) => promises(words),
+    let Some(form) = Form::named(words[0]) else {
+        return Err(NotUnderstood::Name);
+    };
+    match form {
+        Form::MPayload => payload(words),
+        Form::MPropose => propose(words),
+        Form::MProposeAck => propose_ack(words),
+        Form::MCommit => commit(words),
+        Form::MConsensus => consensus(words),
+        Form::MConsensusAck => consensus_ack(words),
+        Form::MRec => recover(words),
+        Form::MRecAck => recover_ack(words),
+        Form::MPromises => promises(words),
     }
 }

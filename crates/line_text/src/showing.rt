@@ -1,5 +1,13 @@
 //! A message as text in words.
 
+ghost use mathlib.Core.Path.{_≡_};
+ghost use mathlib.Core.List.{[], _∷_, _++_};
+ghost use Rattle.std.specs.Of.String.{string-bytes};
+ghost use Rattle.std.specs.Vec.{made};
+ghost use Rattle.line_format.specs.declared.message.Message.the-variants.{MPromises};
+ghost use Rattle.line_text.specs.Labels.{label};
+ghost use Rattle.line_text.specs.Showing.{field-text, numbers-text, entry-numbers, fields-text, text};
+ghost use Rattle.line_text.specs.Values.{number-text};
 use crate::fields::label;
 use crate::fields::show_number;
 use crate::form::Form;
@@ -13,18 +21,24 @@ use schedule::ControllerSet;
 use std::fmt;
 
 /// A space, and then the name of a field and `=`.
-fn show_label(field: Field, out: &mut String) -> fmt::Result {
+fn show_label(field: Field, out: &mut String) -> fmt::Result
+    ensures { λ answer. ⌜ made answer (λ _. string-bytes (now (out .exit)) ≡ string-bytes (now (out .entry)) ++ (32 ∷ (label field ++ (61 ∷ [])))) ⌝ }
+{
     let name = label(field);
     write!(out, " {name}=")
 }
 
-fn show_field(field: Field, number: u32, out: &mut String) -> fmt::Result {
+fn show_field(field: Field, number: u32, out: &mut String) -> fmt::Result
+    ensures { λ answer. ⌜ made answer (λ _. string-bytes (now (out .exit)) ≡ string-bytes (now (out .entry)) ++ field-text field (number-text field number)) ⌝ }
+{
     show_label(field, out)?;
     show_number(field, number, out)
 }
 
 /// Fields, each with its number.
-fn show_numbers(fields: &[(Field, u32)], out: &mut String) -> fmt::Result {
+fn show_numbers(fields: &[(Field, u32)], out: &mut String) -> fmt::Result
+    ensures { λ answer. ⌜ made answer (λ _. string-bytes (now (out .exit)) ≡ string-bytes (now (out .entry)) ++ numbers-text (now (fields .entry))) ⌝ }
+{
     for (field, number) in fields {
         show_field(*field, *number, out)?;
     }
@@ -38,7 +52,9 @@ fn show_change(
     change: &Change,
     set: &ControllerSet,
     out: &mut String,
-) -> fmt::Result {
+) -> fmt::Result
+    ensures { λ answer. ⌜ made answer (λ _. string-bytes (now (out .exit)) ≡ string-bytes (now (out .entry)) ++ numbers-text (entry-numbers sender id (now (change .entry)) (now (set .entry) .bits))) ⌝ }
+{
     show_numbers(
         &[
             (Field::Sender, sender),
@@ -54,7 +70,9 @@ fn show_change(
     )
 }
 
-fn show_promises(sender: u32, promises: &Promises, out: &mut String) -> fmt::Result {
+fn show_promises(sender: u32, promises: &Promises, out: &mut String) -> fmt::Result
+    ensures { λ answer. ⌜ made answer (λ _. string-bytes (now (out .exit)) ≡ string-bytes (now (out .entry)) ++ fields-text (MPromises sender (now (promises .entry)))) ⌝ }
+{
     show_numbers(&[(Field::Sender, sender)], out)?;
     show_label(Field::Detached, out)?;
     show_detached(&promises.detached, out)?;
@@ -63,7 +81,9 @@ fn show_promises(sender: u32, promises: &Promises, out: &mut String) -> fmt::Res
 }
 
 /// Adds a message's fields to a text.
-fn show_fields(message: &Message, out: &mut String) -> fmt::Result {
+fn show_fields(message: &Message, out: &mut String) -> fmt::Result
+    ensures { λ answer. ⌜ made answer (λ _. string-bytes (now (out .exit)) ≡ string-bytes (now (out .entry)) ++ fields-text (now (message .entry))) ⌝ }
+{
     match message {
         Message::MPayload {
             sender,
@@ -145,7 +165,9 @@ fn show_fields(message: &Message, out: &mut String) -> fmt::Result {
 }
 
 /// Adds a message in words to a text.
-pub fn show(message: &Message, out: &mut String) -> fmt::Result {
+pub fn show(message: &Message, out: &mut String) -> fmt::Result
+    ensures { λ answer. ⌜ made answer (λ _. string-bytes (now (out .exit)) ≡ string-bytes (now (out .entry)) ++ text (now (message .entry))) ⌝ }
+{
     let name = Form::of(message).name();
     write!(out, "{name}")?;
     show_fields(message, out)

@@ -3,6 +3,7 @@
 use crate::account::Account;
 use line_format::LineFault;
 use line_format::Message;
+use line_format::fault::LineFaultPartialEq;
 use line_format::read;
 use line_format::shape;
 use line_format::write;
@@ -59,7 +60,7 @@ impl Bench {
     fn answer_bytes(&mut self, heap: Global, line: &str, out: &mut String) -> Result<(), AnyError> {
         let Some(given) = bytes(heap, line)? else {
             self.account.count_not_understood();
-            write!(out, "not understood: an odd number of hexadecimal digits")?;
+            write!(out, "not understood (an odd number of hexadecimal digits)")?;
             return Ok(());
         };
         match read(&self.figures, given.as_slice()) {
@@ -82,7 +83,7 @@ impl Bench {
             Ok(message) => self.write_out(&message, out)?,
             Err(fault) => {
                 self.account.count_not_understood();
-                write!(out, "not understood: {fault}")?;
+                write!(out, "not understood ({fault})")?;
             }
         }
         Ok(())
@@ -115,15 +116,15 @@ fn refuse(
             match said.unfit(figures) {
                 Some(field) => {
                     let name = label(field);
-                    write!(out, "refused {number} {name} outside its limits")
+                    write!(out, "refused {number} ({name} outside its limits)")
                 }
                 None => write!(out, "refused {number}"),
             }
         }
-        Some(_) => write!(out, "refused {number} more pairs than a message holds"),
+        Some(_) => write!(out, "refused {number} (more pairs than a message holds)"),
         None => write!(
             out,
-            "refused {number} no message has this type, length or count"
+            "refused {number} (no message has this type, length or count)"
         ),
     }
 }

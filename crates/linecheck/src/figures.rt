@@ -21,13 +21,13 @@ pub impl fmt::Display for NoFigures as NoFiguresDisplay {
         match self {
             NoFigures::NotTwoNumbers => write!(
                 f,
-                "refused 11 the first line is not two numbers, R F"
+                "refused 11 (the first line is not two numbers, R F)"
             ),
             NoFigures::Refused(fault) => {
                 let number = fault.number();
                 write!(
                     f,
-                    "refused {number} figures want 3 <= R <= 7, 1 <= F and 2F + 1 <= R"
+                    "refused {number} (figures want 3 <= R <= 7, 1 <= F and 2F + 1 <= R)"
                 )
             }
             NoFigures::NoMemory => write!(f, "no memory"),

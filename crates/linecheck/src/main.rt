@@ -33,10 +33,11 @@ fn main(rt: LibcRuntime) -> Result<(), AnyError> {
     let heap = rt.alloc();
     let mut out = BufWriter::new(rt.stdout());
     let mut lines = BufReader::new(rt.stdin()).lines(heap);
-    let Some(opening) = lines.next() else {
-        return Err("no group figures".into());
+    let opening = match lines.next() {
+        Some(line) => line?,
+        None => String::new(heap),
     };
-    let mut bench = Bench::new(first(heap, opening?.as_str(), &mut out)?);
+    let mut bench = Bench::new(first(heap, opening.as_str(), &mut out)?);
     let mut text = String::new(heap);
     let mut number: u64 = 1;
     for next in lines {
