@@ -10,6 +10,14 @@ use Rattle.std.proofs.shelf.Lists.{drop-more, set-at}
 use Rattle.line_format.specs.Fields.{fields-at}
 
 module _ {A : Type 0} (at : List ℕ → ℕ → A) (size : ℕ) (bytes : List ℕ) where
+  pub fields-at-none : (p : ℕ) → fields-at at size bytes p 0 ≡ []
+  unfolding fields-at
+  fields-at-none p = refl
+
+  pub fields-at-first : (p n : ℕ) → fields-at at size bytes p (suc n) ≡ at bytes p ∷ fields-at at size bytes (p + size) n
+  unfolding fields-at
+  fields-at-first p n = refl
+
   pub length-fields-at : (p n : ℕ) → length (fields-at at size bytes p n) ≡ n
   unfolding fields-at
   length-fields-at p zero = refl

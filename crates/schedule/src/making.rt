@@ -32,6 +32,9 @@ impl Figures {
     pub fn same(&self, other: &Figures) -> bool
         ensures { λ answer. ⌜ Told-apart (now (self .entry)) (now (other .entry)) answer ⌝ }
     {
-        self.r == other.r && self.f == other.f
+        if self.r != other.r {
+            return false;
+        }
+        self.f == other.f
     }
 }

@@ -1,0 +1,10 @@
+pub mod Agree
+pub mod Bits
+pub mod Carrying
+pub mod Counting
+pub mod Invariant
+pub mod Moves
+pub mod Samples
+pub mod Stability
+pub mod Tables
+pub mod Truth
