@@ -1,4 +1,6 @@
+pub mod Back
 pub mod Cuts
+pub mod Law
 pub mod Nibbles
 pub mod Numerals
 pub mod Shown

@@ -1,9 +1,10 @@
 -- Bytes read and written one after the other.
 use mathlib.Core.Path.{_≡_, refl, sym, ap, _∙_}
-use mathlib.Core.Bool.{Bool, true, false, cond}
+use mathlib.Core.Bool.{Bool, true, false, cond, _&&_}
 use mathlib.Core.List.{List, [], _∷_, _++_, append-assoc, append-nil}
-use Prim.Native.Nat.{ℕ, _+_, _*_, _/_, _%_, _<_, _≤_}
+use Prim.Native.Nat.{ℕ, suc, _+_, _*_, _/_, _%_, _<_, _≤_}
 use native.Mathlib.Omega.{arith}
+use lib.Dec.{eqb, ltb}
 use lib.ListN.{length, getD, drop}
 use lib.Utf8.{encode}
 use Rattle.std.proofs.shelf.Ascii.{encode-ascii}
@@ -12,7 +13,7 @@ use Rattle.std.proofs.shelf.Ways.{tells, eqb-tells}
 use Rattle.std.specs.Options.{isSome}
 use Rattle.std.specs.declared.option.Option.{Option}
 use Rattle.std.specs.declared.option.Option.the-variants.{Some, None}
-use Rattle.line_text.specs.Hexadecimal.{digit-value, digit-of, byte-text, before, digit-added, bytes-after}
+use Rattle.line_text.specs.Hexadecimal.{digit-value, digit-of, byte-text, before, digit-added, bytes-after, spaced, text-from, Bytes-back}
 
 pub digit-value-small : (c d : ℕ) → digit-value c ≡ Some d → d < 16
 digit-value-small c d e = grind (arith, tells)
@@ -63,3 +64,27 @@ ended-some text items i (Some d) h sofar e = sym (sofar ∙ ap (onto items) (at-
 -- two digits as they are printed
 pub byte-encoded : (b high low : ℕ) → b < 256 → high ≡ digit-of (b / 16) → low ≡ digit-of (b % 16) → encode high ++ encode low ≡ byte-text b
 byte-encoded b high low h e f = rw (digit-encoded (b / 16) high (omega arith) e, digit-encoded (b % 16) low (omega arith) f) refl
+
+-- hexadecimal text, read back
+digit-back : (v : ℕ) → v < 16 → (eqb (digit-of v) 32 ≡ false) × (digit-value (digit-of v) ≡ Some v)
+digit-back v h = (grind (arith, tells), grind (arith, tells))
+
+byte-back : (b : ℕ) (rest : List ℕ) → b < 256 → bytes-after None (byte-text b ++ rest) ≡ before b (bytes-after None rest)
+byte-back b rest h =
+    let high = digit-back (b / 16) (omega arith) in
+    let low = digit-back (b % 16) (omega arith) in
+    let whole : b / 16 * 16 + b % 16 ≡ b = omega arith in
+    rw (high .0, high .1, low .0, low .1) (ap (λ n. before n (bytes-after None rest)) whole)
+
+space-back : (space : Bool) (b : ℕ) (rest : List ℕ) → bytes-after None (spaced space b ++ rest) ≡ bytes-after None (byte-text b ++ rest)
+space-back true b rest = refl
+space-back false b rest = refl
+
+text-back : (i : ℕ) (bs : List ℕ) → ((k : ℕ) → getD bs k 0 < 256) → bytes-after None (text-from i bs) ≡ Some bs
+text-back i [] h = refl
+text-back i (b ∷ bs) h =
+    let space = ltb 0 i && eqb (i % 4) 0 in
+    space-back space b (text-from (i + 1) bs) ∙ byte-back b (text-from (i + 1) bs) (h 0) ∙ ap (before b) (text-back (i + 1) bs (λ k. h (suc k)))
+
+pub bytes-back : Bytes-back
+bytes-back bs h = text-back 0 bs h

@@ -1,9 +1,10 @@
 -- Bytes in hexadecimal.
+use mathlib.Core.Path.{_≡_}
 use mathlib.Core.Bool.{Bool, true, cond, _&&_, _||_}
 use mathlib.Core.List.{List, [], _∷_, _++_}
-use Prim.Native.Nat.{ℕ, _+_, _-_, _*_, _/_, _%_}
+use Prim.Native.Nat.{ℕ, _+_, _-_, _*_, _/_, _%_, _<_}
 use lib.Dec.{leb, ltb, eqb}
-use lib.ListN.{take, drop}
+use lib.ListN.{getD}
 use Rattle.std.specs.Options.{isSome}
 use Rattle.std.specs.declared.option.Option.{Option}
 use Rattle.std.specs.declared.option.Option.the-variants.{Some, None}
@@ -60,3 +61,7 @@ text-from i (b ∷ bs) = spaced (ltb 0 i && eqb (i % 4) 0) b ++ text-from (i + 1
 -- groups of four bytes with a space between
 abbrev pub bytes-text : List ℕ → List ℕ
 bytes-text bs = text-from 0 bs
+
+-- the text of bytes, read back, is the bytes
+abbrev pub Bytes-back : Type 0
+Bytes-back = (bs : List ℕ) → ((k : ℕ) → getD bs k 0 < 256) → bytes-of (bytes-text bs) ≡ Some bs

@@ -1,6 +1,7 @@
 pub mod Forms
 pub mod Hexadecimal
 pub mod Labels
+pub mod Laws
 pub mod Lists
 pub mod Numbers
 pub mod Promises

@@ -7,7 +7,7 @@ ghost use Rattle.std.specs.Of.String.{string-bytes};
 ghost use Rattle.std.specs.Of.Vec.{vec-items};
 ghost use Rattle.std.specs.Options.{mapped};
 ghost use Rattle.std.specs.Vec.{made};
-ghost use Rattle.line_text.specs.Hexadecimal.{digit-value, hexadecimal, bytes-of, digit-of, spaced, bytes-text};
+ghost use Rattle.line_text.specs.Hexadecimal.{digit-value, hexadecimal, bytes-of, digit-of, spaced, bytes-text, Bytes-back};
 use std::alloc::AllocError;
 use std::alloc::Global;
 use std::fmt;
@@ -88,9 +88,10 @@ fn show_byte(space: bool, byte: u8, out: &mut String) -> fmt::Result
     }
 }
 
-/// Adds bytes in hexadecimal to a text, groups of four with a space between.
+/// Adds bytes in hexadecimal to a text, groups of four with a space between. With it stands the law that what is shown reads back.
 pub fn show_bytes(bytes: &[u8], out: &mut String) -> fmt::Result
-    ensures { λ answer. ⌜ made answer (λ _. string-bytes (now (out .exit)) ≡ string-bytes (now (out .entry)) ++ bytes-text (now (bytes .entry))) ⌝ }
+    ensures shown { λ answer. ⌜ made answer (λ _. string-bytes (now (out .exit)) ≡ string-bytes (now (out .entry)) ++ bytes-text (now (bytes .entry))) ⌝ }
+    ensures back { λ _. ⌜ Bytes-back ⌝ }
 {
     for (i, byte) in bytes.iter().enumerate() {
         show_byte(i > 0 && i % 4 == 0, *byte, out)?;

@@ -6,6 +6,7 @@ ghost use Rattle.std.specs.Of.String.{string-bytes};
 ghost use Rattle.std.specs.Vec.{made};
 ghost use Rattle.line_format.specs.declared.message.Message.the-variants.{MPromises};
 ghost use Rattle.line_text.specs.Labels.{label};
+ghost use Rattle.line_text.specs.Laws.{Reads-back};
 ghost use Rattle.line_text.specs.Showing.{field-text, numbers-text, entry-numbers, fields-text, text};
 ghost use Rattle.line_text.specs.Values.{number-text};
 use crate::fields::label;
@@ -164,9 +165,10 @@ fn show_fields(message: &Message, out: &mut String) -> fmt::Result
     }
 }
 
-/// Adds a message in words to a text.
+/// Adds a message in words to a text. With it stands the law that what is shown reads back.
 pub fn show(message: &Message, out: &mut String) -> fmt::Result
-    ensures { λ answer. ⌜ made answer (λ _. string-bytes (now (out .exit)) ≡ string-bytes (now (out .entry)) ++ text (now (message .entry))) ⌝ }
+    ensures shown { λ answer. ⌜ made answer (λ _. string-bytes (now (out .exit)) ≡ string-bytes (now (out .entry)) ++ text (now (message .entry))) ⌝ }
+    ensures back { λ _. ⌜ Reads-back ⌝ }
 {
     let name = Form::of(message).name();
     write!(out, "{name}")?;

@@ -5,10 +5,12 @@ use Prim.Native.Nat.{_+_, _%_}
 use lib.Dec.{ltb, eqb}
 use native.Mathlib.Omega.{arith}
 use lib.ListN.{getD, drop}
+use borrow.Author.Needs.{needs}
 use Rattle.std.proofs.shelf.Lists.{at-drop-more, at-drop-all}
 use Rattle.std.proofs.shelf.Ways.{tells}
 use Rattle.std.specs.Of.String.{string-bytes}
 use Rattle.line_text.specs.Hexadecimal.{text-from, spaced}
+use Rattle.line_text.proofs.Nibbles.{bytes-back}
 use Rattle.line_text.proofs.hexadecimal.show_bytes.Needs as need
 use Rattle.line_text.proofs.hexadecimal.show_bytes.Needs.{then-i-gt0, else-i-gt0}
 
@@ -23,7 +25,10 @@ loop-i-again c =
     ap (λ l. l ++ rest) (c .in-Continue-show-byte .ensures tt) ∙ append-assoc before (spaced (c .if-i-gt0 .show-byte) (getD bs i 0)) rest
     ∙ ap (λ s. before ++ (spaced s (getD bs i 0) ++ rest)) space ∙ ap (λ l. before ++ l) (sym e) ∙ c .loop-i .inv
 
+pub returns-in-Break-show-byte : need.returns-in-Break-show-byte
+returns-in-Break-show-byte c = record { shown = search needs; back = bytes-back }
+
 pub returns : need.returns
 returns c =
     let e = at-drop-all (text-from (c .loop-i .i)) (c .args .bytes .now) (c .loop-i .i) (omega arith) in
-    sym (append-nil (string-bytes (c .loop-i .out))) ∙ ap (λ l. string-bytes (c .loop-i .out) ++ l) (sym e) ∙ c .loop-i .inv
+    record { shown = sym (append-nil (string-bytes (c .loop-i .out))) ∙ ap (λ l. string-bytes (c .loop-i .out) ++ l) (sym e) ∙ c .loop-i .inv; back = bytes-back }
