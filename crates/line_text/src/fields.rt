@@ -138,7 +138,7 @@ fn set_number(text: &str) -> Option<u32>
 }
 
 /// The number that a field's value stands for.
-pub fn number_of(field: Field, text: &str) -> Option<u32>
+pub(crate) fn number_of(field: Field, text: &str) -> Option<u32>
     ensures { λ answer. ⌜ answer ≡ number-of field (now (text .entry)) ⌝ }
 {
     match field {
@@ -161,7 +161,7 @@ fn show_word(word: Option<&str>, number: u32, out: &mut String) -> fmt::Result
 }
 
 /// A field's value as text: a word or a set's members where the field has such, else the number.
-pub fn show_number(field: Field, number: u32, out: &mut String) -> fmt::Result
+pub(crate) fn show_number(field: Field, number: u32, out: &mut String) -> fmt::Result
     ensures { λ answer. ⌜ made answer (λ _. string-bytes (now (out .exit)) ≡ string-bytes (now (out .entry)) ++ number-text field number) ⌝ }
 {
     match field {
@@ -171,7 +171,7 @@ pub fn show_number(field: Field, number: u32, out: &mut String) -> fmt::Result
 }
 
 /// The value in a word that should be this field.
-pub fn value_in<'a>(field: Field, word: &'a str) -> Result<&'a str, NotUnderstood>
+pub(crate) fn value_in<'a>(field: Field, word: &'a str) -> Result<&'a str, NotUnderstood>
     ensures { λ answer. ⌜ told now answer ≡ value-in field (now (word .entry)) ⌝ }
 {
     let Some((name, value)) = cut(word, '=') else {

@@ -9,6 +9,8 @@ pub mod number;
 mod promises;
 pub mod reading;
 pub mod showing;
+#[cfg(test)]
+mod tests;
 
 pub use fault::NotUnderstood;
 pub use form::Form;
