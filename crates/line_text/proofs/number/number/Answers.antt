@@ -1,0 +1,13 @@
+use mathlib.Core.Path.{_∙_}
+use native.Mathlib.Omega.{arith}
+use borrow.Author.Needs.{needs}
+use Rattle.std.proofs.shelf.Numerals.{parse-plain}
+use Rattle.line_text.proofs.Numerals.{own, number-of-plus, number-of-zeros, number-of-parsed}
+use Rattle.line_text.proofs.number.number.Needs as need
+
+pub returns-then-first-eq43 : need.returns-then-first-eq43
+returns-then-first-eq43 c = search (needs, number-of-plus, number-of-zeros)
+
+pub returns : need.returns
+returns c =
+    c .ok .ensures .value ∙ number-of-parsed (c .args .text .now) _ (parse-plain own 32 (c .args .text .now) _ (c .parse .ensures .reads .0) (search needs)) (search needs)
