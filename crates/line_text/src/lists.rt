@@ -15,7 +15,7 @@ use schedule::ControllerSet;
 use std::fmt;
 
 /// What stands before and after the first such character.
-pub fn cut<'a>(text: &'a str, at: char) -> Option<(&'a str, &'a str)>
+pub(crate) fn cut<'a>(text: &'a str, at: char) -> Option<(&'a str, &'a str)>
     requires { ⌜ at < 128 ⌝ }
     ensures { λ answer. ⌜ mapped ends answer ≡ cut at (now (text .entry)) ⌝ }
 {
@@ -32,7 +32,7 @@ pub trait Gathering: Copy {
 }
 
 /// What the pieces of a list add to what is there.
-pub fn gather<G: Gathering>(start: G, text: &str) -> Option<G>
+pub(crate) fn gather<G: Gathering>(start: G, text: &str) -> Option<G>
     ensures { λ answer. ⌜ answer ≡ listed (G·Gathering .adds) start (now (text .entry)) ⌝ }
 {
     if text == "none" {
@@ -61,21 +61,21 @@ pub impl Gathering for ControllerSet as SetGathering {
 }
 
 /// A comma before every piece of a list but the first.
-pub fn part(first: bool, out: &mut String) -> fmt::Result
+pub(crate) fn part(first: bool, out: &mut String) -> fmt::Result
     ensures { λ answer. ⌜ made answer (λ _. string-bytes (now (out .exit)) ≡ string-bytes (now (out .entry)) ++ cond first [] (44 ∷ [])) ⌝ }
 {
     if first { Ok(()) } else { write!(out, ",") }
 }
 
 /// The end of a list: `none` where there was no piece.
-pub fn finish(first: bool, out: &mut String) -> fmt::Result
+pub(crate) fn finish(first: bool, out: &mut String) -> fmt::Result
     ensures { λ answer. ⌜ made answer (λ _. string-bytes (now (out .exit)) ≡ string-bytes (now (out .entry)) ++ list-from [] first) ⌝ }
 {
     if first { write!(out, "none") } else { Ok(()) }
 }
 
 /// A set's members as text.
-pub fn show_set(set: &ControllerSet, out: &mut String) -> fmt::Result
+pub(crate) fn show_set(set: &ControllerSet, out: &mut String) -> fmt::Result
     ensures { λ answer. ⌜ made answer (λ _. string-bytes (now (out .exit)) ≡ string-bytes (now (out .entry)) ++ set-text (now (set .entry) .bits)) ⌝ }
 {
     let mut first = true;

@@ -80,7 +80,7 @@ pub struct Pairs {
 
 impl Pairs {
     /// No pairs.
-    pub fn none() -> Pairs
+    pub(crate) fn none() -> Pairs
         ensures { λ answer. ⌜ answer ≡ none-yet ⌝ }
     {
         Pairs {
@@ -143,7 +143,7 @@ fn show_range(first: u32, last: u32, out: &mut String) -> fmt::Result
 }
 
 /// Detached timestamps as ranges.
-pub fn show_detached(words: &[u64; WORDS], out: &mut String) -> fmt::Result
+pub(crate) fn show_detached(words: &[u64; WORDS], out: &mut String) -> fmt::Result
     ensures { λ answer. ⌜ made answer (λ _. string-bytes (now (out .exit)) ≡ string-bytes (now (out .entry)) ++ detached-text (now (words .entry))) ⌝ }
 {
     let detached = Detached { words: *words };
@@ -179,7 +179,7 @@ fn show_pair(pair: &Pair, out: &mut String) -> fmt::Result
 }
 
 /// Pairs as text.
-pub fn show_pairs(promises: &Promises, out: &mut String) -> fmt::Result
+pub(crate) fn show_pairs(promises: &Promises, out: &mut String) -> fmt::Result
     ensures { λ answer. ⌜ made answer (λ _. string-bytes (now (out .exit)) ≡ string-bytes (now (out .entry)) ++ pairs-text (now (promises .entry))) ⌝ }
 {
     let count = (promises.count as usize).min(PAIRS);

@@ -29,7 +29,7 @@ const FORMS: [Form; 9] = [
 ];
 
 impl Account {
-    pub fn new() -> Account {
+    pub(crate) fn new() -> Account {
         Account {
             read: [0; 9],
             written: 0,
@@ -39,23 +39,23 @@ impl Account {
         }
     }
 
-    pub fn count_read(&mut self, message: &Message) {
+    pub(crate) fn count_read(&mut self, message: &Message) {
         let place = Form::of(message) as usize;
         self.read[place] = self.read[place].saturating_add(1);
     }
 
-    pub fn count_written(&mut self) {
+    pub(crate) fn count_written(&mut self) {
         self.written = self.written.saturating_add(1);
     }
 
-    pub fn count_refused(&mut self, fault: LineFault) {
+    pub(crate) fn count_refused(&mut self, fault: LineFault) {
         match fault {
             LineFault::OutsideLimits => self.outside = self.outside.saturating_add(1),
             _ => self.malformed = self.malformed.saturating_add(1),
         }
     }
 
-    pub fn count_not_understood(&mut self) {
+    pub(crate) fn count_not_understood(&mut self) {
         self.not_understood = self.not_understood.saturating_add(1);
     }
 

@@ -31,12 +31,12 @@ pub struct Bench {
 }
 
 /// Whether a line says nothing: it is blank, or a remark.
-pub fn passed_over(line: &str) -> bool {
+pub(crate) fn passed_over(line: &str) -> bool {
     line.trim().is_empty() || line.starts_with('#')
 }
 
 impl Bench {
-    pub fn new(figures: Figures) -> Bench {
+    pub(crate) fn new(figures: Figures) -> Bench {
         Bench {
             figures,
             buffer: [0; BUFFER],
@@ -44,12 +44,17 @@ impl Bench {
         }
     }
 
-    pub fn account(&self) -> &Account {
+    pub(crate) fn account(&self) -> &Account {
         &self.account
     }
 
     /// Adds the answer to a line to a text.
-    pub fn answer(&mut self, heap: Global, line: &str, out: &mut String) -> Result<(), AnyError> {
+    pub(crate) fn answer(
+        &mut self,
+        heap: Global,
+        line: &str,
+        out: &mut String,
+    ) -> Result<(), AnyError> {
         if is_hexadecimal(line) {
             self.answer_bytes(heap, line, out)
         } else {

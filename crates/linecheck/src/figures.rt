@@ -48,7 +48,7 @@ pub impl From<FiguresFault> for NoFigures as NoFiguresFromFiguresFault {
 }
 
 /// The figures that two numbers, R and F, give.
-pub fn figures(heap: Global, line: &str) -> Result<Figures, NoFigures> {
+pub(crate) fn figures(heap: Global, line: &str) -> Result<Figures, NoFigures> {
     let given = words(heap, line)?;
     if given.len() != 2 {
         return Err(NoFigures::NotTwoNumbers);
