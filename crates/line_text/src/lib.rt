@@ -9,8 +9,6 @@ pub mod number;
 mod promises;
 pub mod reading;
 pub mod showing;
-#[cfg(test)]
-mod tests;
 
 pub use fault::NotUnderstood;
 pub use form::Form;
