@@ -62,6 +62,12 @@ impl Bench {
         }
     }
 
+    /// Adds the answer to a line that is no text.
+    pub(crate) fn no_text(&mut self, out: &mut String) -> fmt::Result {
+        self.account.count_not_understood();
+        write!(out, "not understood (not text)")
+    }
+
     fn answer_bytes(&mut self, heap: Global, line: &str, out: &mut String) -> Result<(), AnyError> {
         let Some(given) = bytes(heap, line)? else {
             self.account.count_not_understood();
@@ -75,8 +81,10 @@ impl Bench {
             }
             Err(fault) => {
                 self.account.count_refused(fault);
-                let said = shape(given.as_slice()).ok();
-                refuse(&self.figures, fault, said, out)?;
+                match shape(given.as_slice()) {
+                    Ok(said) => refuse(&self.figures, fault, &said, out)?,
+                    Err(_) => refuse_shape(fault, given.as_slice(), out)?,
+                }
             }
         }
         Ok(())
@@ -102,34 +110,39 @@ impl Bench {
             }
             Err(fault) => {
                 self.account.count_refused(fault);
-                refuse(&self.figures, fault, Some(*message), out)
+                refuse(&self.figures, fault, message, out)
             }
         }
     }
 }
 
-/// The number of a refusal, and a few words why.
+/// The number of a message's refusal, and a few words why.
 fn refuse(
     figures: &Figures,
     fault: LineFault,
-    message: Option<Message>,
+    message: &Message,
     out: &mut String,
 ) -> fmt::Result {
     let number = fault.number();
-    match message {
-        Some(said) if fault == LineFault::OutsideLimits => {
-            match said.unfit(figures) {
-                Some(field) => {
-                    let name = label(field);
-                    write!(out, "refused {number} ({name} outside its limits)")
-                }
-                None => write!(out, "refused {number}"),
-            }
+    match message.unfit(figures) {
+        Some(field) if fault == LineFault::OutsideLimits => {
+            let name = label(field);
+            write!(out, "refused {number} ({name} outside its limits)")
         }
-        Some(_) => write!(out, "refused {number} (more pairs than a message holds)"),
-        None => write!(
+        _ => write!(out, "refused {number} (more pairs than a message holds)"),
+    }
+}
+
+/// The number of the refusal of bytes that have no message's shape, and a few words why.
+fn refuse_shape(fault: LineFault, bytes: &[u8], out: &mut String) -> fmt::Result {
+    let number = fault.number();
+    let length = bytes.len();
+    match bytes {
+        [0, 0, 0, kind, ..] if *kind >= 1 && *kind <= 9 => write!(
             out,
-            "refused {number} (no message has this type, length or count)"
+            "refused {number} (no message of type {kind} has these {length} bytes)"
         ),
+        [_, _, _, _, ..] => write!(out, "refused {number} (no message has this type)"),
+        _ => write!(out, "refused {number} (fewer than 4 bytes)"),
     }
 }

@@ -13,6 +13,7 @@ use figures::figures;
 use schedule::Figures;
 use std::alloc::Global;
 use std::error::AnyError;
+use std::io;
 use std::io::BufRead;
 use std::io::BufReader;
 use std::io::BufWriter;
@@ -41,13 +42,14 @@ fn main(rt: LibcRuntime) -> Result<(), AnyError> {
     let mut text = String::new(heap);
     let mut number: u64 = 1;
     for next in lines {
-        let line = next?;
         number = number.saturating_add(1);
-        if passed_over(line.as_str()) {
-            continue;
-        }
         text.clear();
-        bench.answer(heap, line.as_str(), &mut text)?;
+        match next {
+            Ok(line) if passed_over(line.as_str()) => continue,
+            Ok(line) => bench.answer(heap, line.as_str(), &mut text)?,
+            Err(error) if error.kind() == io::ErrorKind::InvalidData => bench.no_text(&mut text)?,
+            Err(error) => return Err(error.into()),
+        }
         writeln!(out, "{number}: {text}")?;
     }
     let account = bench.account();
