@@ -22,12 +22,12 @@ use Rattle.line_format.specs.Limits.{phase-fits}
 use Rattle.line_format.specs.declared.limits.Field.{Field}
 use Rattle.line_format.specs.declared.limits.Field.the-variants.{Sender, Id, Department, Kind, Hour, Slot, Value, Set, Timestamp, Ballot, Phase, Accepted, Detached, Pairs}
 use Rattle.line_text.specs.Labels.{label}
-use Rattle.line_text.specs.Numbers.{number, read-on}
+use Rattle.text_forms.specs.Numbers.{number, read-on}
 use Rattle.line_text.specs.Reading.{value-at, number-at, then, given}
 use Rattle.line_text.specs.Sets.{set-number, set-text, members-from}
 use Rattle.line_text.specs.Values.{number-of, number-text, value-after, value-in, word}
 use Rattle.line_text.proofs.Cuts.{cut-at}
-use Rattle.line_text.proofs.Numerals.{own, number-of-parsed}
+use Rattle.text_forms.proofs.Numerals.{own, number-of-parsed}
 
 -- decimal numbers
 lead-alone : (n : ℕ) → n < 2 ^ 64 → getD (decimal n) 0 0 ≡ 48 → length (decimal n) ≤ 1

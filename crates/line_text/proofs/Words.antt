@@ -9,11 +9,11 @@ use Rattle.std.proofs.shelf.Lists.{map-push}
 use Rattle.std.specs.declared.option.Option.the-variants.{Some}
 use Rattle.std.specs.declared.result.Result.{Result}
 use Rattle.line_format.specs.declared.message.Message.{Message}
-use Rattle.line_text.specs.Forms.{form-named}
+use Rattle.text_forms.specs.Forms.{form-named}
 use Rattle.line_text.specs.Lists.{filled}
 use Rattle.line_text.specs.Reading.{texts, by-form, said}
 use Rattle.line_text.specs.declared.fault.NotUnderstood.{NotUnderstood}
-use Rattle.line_text.specs.declared.form.Form.{Form}
+use Rattle.text_forms.specs.declared.form.Form.{Form}
 
 -- what a place past the end is read as
 abbrev pub nowhere : RefT (List ℕ)

@@ -15,7 +15,7 @@ use Rattle.schedule.specs.declared.change.Kind as kinds
 use Rattle.schedule.specs.declared.change.Kind.the-variants as kind
 use Rattle.line_format.specs.declared.limits.Field.{Field}
 use Rattle.line_format.specs.declared.limits.Field.the-variants.{Sender, Id, Department, Kind, Hour, Slot, Value, Set, Timestamp, Ballot, Phase, Accepted, Detached, Pairs}
-use Rattle.line_text.specs.Numbers.{number}
+use Rattle.text_forms.specs.Numbers.{number}
 
 abbrev pub label : Field → List ℕ
 label Sender = codes "sender"

@@ -1,9 +1,6 @@
-pub mod Forms
-pub mod Hexadecimal
 pub mod Labels
 pub mod Laws
 pub mod Lists
-pub mod Numbers
 pub mod Promises
 pub mod Reading
 pub mod Sets

@@ -14,7 +14,7 @@ use Rattle.line_format.specs.Reading.{no-pairs}
 use Rattle.line_format.specs.declared.message.Pair.{Pair}
 use Rattle.line_format.specs.declared.message.Promises.{Promises}
 use Rattle.line_text.specs.Lists.{and-then, cut, list-text}
-use Rattle.line_text.specs.Numbers.{number}
+use Rattle.text_forms.specs.Numbers.{number}
 use Rattle.line_text.specs.declared.promises.Detached.{Detached}
 use Rattle.line_text.specs.declared.promises.Pairs.{Pairs}
 

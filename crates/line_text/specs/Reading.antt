@@ -16,14 +16,14 @@ use Rattle.line_format.specs.declared.limits.Field.the-variants.{Sender, Id, De
 use Rattle.line_format.specs.declared.message.Message.{Message}
 use Rattle.line_format.specs.declared.message.Message.the-variants.{MPayload, MPropose, MProposeAck, MCommit, MConsensus, MConsensusAck, MRec, MRecAck, MPromises}
 use Rattle.line_format.specs.declared.message.Promises.{Promises}
-use Rattle.line_text.specs.Forms.{form-named}
+use Rattle.text_forms.specs.Forms.{form-named}
 use Rattle.line_text.specs.Lists.{listed, words}
 use Rattle.line_text.specs.Promises.{with-detached, no-detached, with-pair, none-yet}
 use Rattle.line_text.specs.Values.{number-of, value-in}
 use Rattle.line_text.specs.declared.fault.NotUnderstood.{NotUnderstood}
 use Rattle.line_text.specs.declared.fault.NotUnderstood.the-variants as fault
-use Rattle.line_text.specs.declared.form.Form.{Form}
-use Rattle.line_text.specs.declared.form.Form.the-variants as form
+use Rattle.text_forms.specs.declared.form.Form.{Form}
+use Rattle.text_forms.specs.declared.form.Form.the-variants as form
 use Rattle.line_text.specs.declared.promises.Detached as detached
 use Rattle.line_text.specs.declared.promises.Pairs as pairs
 

@@ -11,7 +11,7 @@ use Rattle.std.specs.declared.option.Option.the-variants.{Some, None}
 use Rattle.schedule.specs.Sets.{member}
 use Rattle.schedule.specs.declared.set.ControllerSet.{ControllerSet}
 use Rattle.line_text.specs.Lists.{and-then, listed, list-text}
-use Rattle.line_text.specs.Numbers.{number}
+use Rattle.text_forms.specs.Numbers.{number}
 
 -- a set with one member more; members are 1 to 32
 abbrev pub with-number : ℕ → ℕ → Option ControllerSet

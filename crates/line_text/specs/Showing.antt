@@ -6,7 +6,7 @@ use Rattle.line_format.specs.declared.limits.Field.{Field}
 use Rattle.line_format.specs.declared.limits.Field.the-variants.{Sender, Id, Department, Kind, Hour, Slot, Value, Set, Timestamp, Ballot, Phase, Accepted, Detached, Pairs}
 use Rattle.line_format.specs.declared.message.Message.{Message}
 use Rattle.line_format.specs.declared.message.Message.the-variants.{MPayload, MPropose, MProposeAck, MCommit, MConsensus, MConsensusAck, MRec, MRecAck, MPromises}
-use Rattle.line_text.specs.Forms.{form-of, form-name}
+use Rattle.text_forms.specs.Forms.{form-of, form-name}
 use Rattle.line_text.specs.Labels.{label}
 use Rattle.line_text.specs.Promises.{detached-text, pairs-text}
 use Rattle.line_text.specs.Values.{number-text}

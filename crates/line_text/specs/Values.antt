@@ -13,7 +13,7 @@ use Rattle.line_format.specs.declared.limits.Field.{Field}
 use Rattle.line_format.specs.declared.limits.Field.the-variants as field
 use Rattle.line_text.specs.Labels.{label, word-of, department-number, kind-number, phase-number}
 use Rattle.line_text.specs.Lists.{cut}
-use Rattle.line_text.specs.Numbers.{number}
+use Rattle.text_forms.specs.Numbers.{number}
 use Rattle.line_text.specs.Sets.{set-number, set-text}
 use Rattle.line_text.specs.declared.fault.NotUnderstood.{NotUnderstood}
 use Rattle.line_text.specs.declared.fault.NotUnderstood.the-variants.{Expected}

@@ -14,12 +14,12 @@ use crate::lists::SetGathering;
 use crate::lists::cut;
 use crate::lists::gather;
 use crate::lists::show_set;
-use crate::number::number;
 use line_format::Field;
 use schedule::ControllerSet;
 use schedule::Department;
 use schedule::Kind;
 use std::fmt;
+use text_forms::number::number;
 
 /// The name of a field.
 pub fn label(field: Field) -> &'static str

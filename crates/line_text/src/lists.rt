@@ -10,9 +10,9 @@ ghost use Rattle.std.specs.Vec.{made};
 ghost use Rattle.std.specs.declared.option.Option.{Option};
 ghost use Rattle.line_text.specs.Lists.{cut, ends, listed, list-from};
 ghost use Rattle.line_text.specs.Sets.{with-member, set-text};
-use crate::number::number;
 use schedule::ControllerSet;
 use std::fmt;
+use text_forms::number::number;
 
 /// What stands before and after the first such character.
 pub(crate) fn cut<'a>(text: &'a str, at: char) -> Option<(&'a str, &'a str)>

@@ -9,12 +9,12 @@ use crate::lists::Gathering;
 use crate::lists::cut;
 use crate::lists::finish;
 use crate::lists::part;
-use crate::number::number;
 use line_format::Pair;
 use line_format::Promises;
 use line_format::message::PAIRS;
 use line_format::message::WORDS;
 use std::fmt;
+use text_forms::number::number;
 
 /// How many timestamps the words have bits for.
 pub const BITS: u32 = 1600;

@@ -9,7 +9,6 @@ ghost use Rattle.line_text.specs.Values.{told};
 use crate::fault::NotUnderstood;
 use crate::fields::number_of;
 use crate::fields::value_in;
-use crate::form::Form;
 use crate::lists::gather;
 use crate::promises::Detached;
 use crate::promises::DetachedGathering;
@@ -23,6 +22,7 @@ use schedule::Change;
 use schedule::ControllerSet;
 use std::alloc::AllocError;
 use std::alloc::Global;
+use text_forms::Form;
 
 /// The words of a line: what stands between its spaces.
 pub fn words<'a>(heap: Global, line: &'a str) -> Result<Vec<&'a str>, AllocError>

@@ -11,7 +11,6 @@ ghost use Rattle.line_text.specs.Showing.{field-text, numbers-text, entry-numb
 ghost use Rattle.line_text.specs.Values.{number-text};
 use crate::fields::label;
 use crate::fields::show_number;
-use crate::form::Form;
 use crate::promises::show_detached;
 use crate::promises::show_pairs;
 use line_format::Field;
@@ -20,6 +19,7 @@ use line_format::Promises;
 use schedule::Change;
 use schedule::ControllerSet;
 use std::fmt;
+use text_forms::Form;
 
 /// A space, and then the name of a field and `=`.
 fn show_label(field: Field, out: &mut String) -> fmt::Result

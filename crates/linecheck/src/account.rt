@@ -2,8 +2,8 @@
 
 use line_format::LineFault;
 use line_format::Message;
-use line_text::Form;
 use std::fmt;
+use text_forms::Form;
 
 /// How many messages of each form were read, how many were written, and how many lines came to nothing.
 #[derive(Clone, Copy)]

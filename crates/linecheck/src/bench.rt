@@ -9,15 +9,15 @@ use line_format::shape;
 use line_format::write;
 use line_text::fault::NotUnderstoodDisplay;
 use line_text::fields::label;
-use line_text::hexadecimal::bytes;
-use line_text::hexadecimal::is_hexadecimal;
-use line_text::hexadecimal::show_bytes;
 use line_text::reading;
 use line_text::showing::show;
 use schedule::Figures;
 use std::alloc::Global;
 use std::error::AnyError;
 use std::fmt;
+use text_forms::hexadecimal::bytes;
+use text_forms::hexadecimal::is_hexadecimal;
+use text_forms::hexadecimal::show_bytes;
 
 /// The bytes of an outgoing buffer.
 const BUFFER: usize = 2048;
@@ -117,12 +117,7 @@ impl Bench {
 }
 
 /// The number of a message's refusal, and a few words why.
-fn refuse(
-    figures: &Figures,
-    fault: LineFault,
-    message: &Message,
-    out: &mut String,
-) -> fmt::Result {
+fn refuse(figures: &Figures, fault: LineFault, message: &Message, out: &mut String) -> fmt::Result {
     let number = fault.number();
     match message.unfit(figures) {
         Some(field) if fault == LineFault::OutsideLimits => {

@@ -1,12 +1,12 @@
 //! The first line of the input: the figures of the group.
 
-use line_text::number::number;
 use line_text::reading::words;
 use schedule::Figures;
 use schedule::FiguresFault;
 use std::alloc::AllocError;
 use std::alloc::Global;
 use std::fmt;
+use text_forms::number::number;
 
 /// Why there are no group figures.
 #[derive(Clone, Copy)]

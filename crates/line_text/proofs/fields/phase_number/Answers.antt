@@ -1,4 +1,4 @@
-use Rattle.line_text.proofs.Texts.{passed}
+use Rattle.text_forms.proofs.Texts.{passed}
 use Rattle.line_text.proofs.fields.phase_number.Needs as need
 
 pub returns-in-rest : need.returns-in-rest

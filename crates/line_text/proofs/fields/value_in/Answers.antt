@@ -1,6 +1,6 @@
 use mathlib.Core.Path.{refl, sym, ap, _∙_}
 use Rattle.line_text.specs.Values.{value-after}
-use Rattle.line_text.proofs.Texts.{passed, never}
+use Rattle.text_forms.proofs.Texts.{passed, never}
 use Rattle.line_text.proofs.fields.value_in.Needs as need
 
 pub returns-else-eq : need.returns-else-eq

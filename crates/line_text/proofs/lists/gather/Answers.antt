@@ -7,7 +7,7 @@ use Rattle.std.specs.Matches.{split-text, split-live}
 use Rattle.std.specs.Parts.{split-callee}
 use Rattle.line_text.specs.Lists.{gathered, and-then, pieces}
 use Rattle.line_text.proofs.Cuts.{left, at-next, begun}
-use Rattle.line_text.proofs.Texts.{passed, never}
+use Rattle.text_forms.proofs.Texts.{passed, never}
 use Rattle.line_text.proofs.lists.gather.Given as given
 use Rattle.line_text.proofs.lists.gather.Needs as need
 use Rattle.line_text.proofs.lists.gather.Needs.{After-with}

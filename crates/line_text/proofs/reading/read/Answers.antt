@@ -1,7 +1,7 @@
 use mathlib.Core.Path.{sym, ap, _∙_}
 use borrow.Author.Tests.{true-eqb}
 use Rattle.std.proofs.shelf.Lists.{nil-from-length}
-use Rattle.line_text.specs.Forms.{form-named}
+use Rattle.text_forms.specs.Forms.{form-named}
 use Rattle.line_text.specs.Reading.{by-form, said, texts}
 use Rattle.line_text.proofs.Words.{texts-at, said-by}
 use Rattle.line_text.proofs.reading.read.Needs as need

@@ -3,7 +3,7 @@ use mathlib.Core.List.{_++_}
 use borrow.Author.Needs.{needs}
 use Rattle.std.proofs.shelf.Results.{made-weaker}
 use Rattle.std.specs.Of.String.{string-bytes}
-use Rattle.line_text.specs.Forms.{form-name}
+use Rattle.text_forms.specs.Forms.{form-name}
 use Rattle.line_text.specs.Showing.{fields-text}
 use Rattle.line_text.proofs.Law.{reads-back}
 use Rattle.line_text.proofs.Shown.{one-then-one}

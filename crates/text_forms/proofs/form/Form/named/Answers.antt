@@ -1,6 +1,6 @@
 use mathlib.Core.Path.{refl}
-use Rattle.line_text.proofs.Texts.{passed}
-use Rattle.line_text.proofs.form.Form.named.Needs as need
+use Rattle.text_forms.proofs.Texts.{passed}
+use Rattle.text_forms.proofs.form.Form.named.Needs as need
 
 pub returns-in-rest : need.returns-in-rest
 returns-in-rest c =

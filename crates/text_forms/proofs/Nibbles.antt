@@ -13,7 +13,7 @@ use Rattle.std.proofs.shelf.Ways.{tells, eqb-tells}
 use Rattle.std.specs.Options.{isSome}
 use Rattle.std.specs.declared.option.Option.{Option}
 use Rattle.std.specs.declared.option.Option.the-variants.{Some, None}
-use Rattle.line_text.specs.Hexadecimal.{digit-value, digit-of, byte-text, before, digit-added, bytes-after, spaced, text-from, Bytes-back}
+use Rattle.text_forms.specs.Hexadecimal.{digit-value, digit-of, byte-text, before, digit-added, bytes-after, spaced, text-from, Bytes-back}
 
 pub digit-value-small : (c d : ℕ) → digit-value c ≡ Some d → d < 16
 digit-value-small c d e = grind (arith, tells)

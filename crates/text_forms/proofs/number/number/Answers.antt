@@ -2,8 +2,8 @@ use mathlib.Core.Path.{_∙_}
 use native.Mathlib.Omega.{arith}
 use borrow.Author.Needs.{needs}
 use Rattle.std.proofs.shelf.Numerals.{parse-plain}
-use Rattle.line_text.proofs.Numerals.{own, number-of-plus, number-of-zeros, number-of-parsed}
-use Rattle.line_text.proofs.number.number.Needs as need
+use Rattle.text_forms.proofs.Numerals.{own, number-of-plus, number-of-zeros, number-of-parsed}
+use Rattle.text_forms.proofs.number.number.Needs as need
 
 pub returns-then-first-eq43 : need.returns-then-first-eq43
 returns-then-first-eq43 c = search (needs, number-of-plus, number-of-zeros)

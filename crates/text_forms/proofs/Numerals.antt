@@ -14,7 +14,7 @@ use Rattle.std.specs.shelf.Text.{allDigits}
 use Rattle.std.specs.declared.option.Option.the-variants.{Some, None}
 use Rattle.std.specs.declared.result.Result.{Result}
 use Rattle.std.specs.declared.result.Result.the-variants.{Ok, Err}
-use Rattle.line_text.specs.Numbers.{read-on, plain, number}
+use Rattle.text_forms.specs.Numbers.{read-on, plain, number}
 
 pub own : Numerals (λ ds. allDigits ds ≡ true) (read-on 0)
 own = numerals-by-fold _ (search needs) read-on (search needs)

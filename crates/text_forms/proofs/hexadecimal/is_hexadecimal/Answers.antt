@@ -2,8 +2,8 @@ use mathlib.Core.Path.{sym, _∙_}
 use native.Mathlib.Omega.{arith}
 use Rattle.std.proofs.shelf.Lists.{at-drop-more, at-drop-all}
 use Rattle.std.proofs.shelf.Ways.{tells}
-use Rattle.line_text.specs.Hexadecimal.{hexadecimal}
-use Rattle.line_text.proofs.hexadecimal.is_hexadecimal.Needs as need
+use Rattle.text_forms.specs.Hexadecimal.{hexadecimal}
+use Rattle.text_forms.proofs.hexadecimal.is_hexadecimal.Needs as need
 
 pub returns-then-is-none : need.returns-then-is-none
 returns-then-is-none c =

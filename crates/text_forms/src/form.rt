@@ -1,7 +1,7 @@
 //! The nine forms of a message, and their names.
 
 ghost use mathlib.Core.Path.{_≡_};
-ghost use Rattle.line_text.specs.Forms.{form-of, form-name, form-named};
+ghost use Rattle.text_forms.specs.Forms.{form-of, form-name, form-named};
 use line_format::Message;
 
 /// Which message: its name, whatever its fields hold.

@@ -1,6 +1,6 @@
 use mathlib.Core.Path.{sym, ap}
-use Rattle.line_text.specs.Forms.{form-name}
-use Rattle.line_text.proofs.form.Form.name.Needs as need
+use Rattle.text_forms.specs.Forms.{form-name}
+use Rattle.text_forms.proofs.form.Form.name.Needs as need
 
 pub returns-in-MProposeAck : need.returns-in-MProposeAck
 returns-in-MProposeAck c = sym (ap form-name (c .in-MProposeAck .is))

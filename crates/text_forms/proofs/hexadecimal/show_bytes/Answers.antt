@@ -9,10 +9,10 @@ use borrow.Author.Needs.{needs}
 use Rattle.std.proofs.shelf.Lists.{at-drop-more, at-drop-all}
 use Rattle.std.proofs.shelf.Ways.{tells}
 use Rattle.std.specs.Of.String.{string-bytes}
-use Rattle.line_text.specs.Hexadecimal.{text-from, spaced}
-use Rattle.line_text.proofs.Nibbles.{bytes-back}
-use Rattle.line_text.proofs.hexadecimal.show_bytes.Needs as need
-use Rattle.line_text.proofs.hexadecimal.show_bytes.Needs.{then-i-gt0, else-i-gt0}
+use Rattle.text_forms.specs.Hexadecimal.{text-from, spaced}
+use Rattle.text_forms.proofs.Nibbles.{bytes-back}
+use Rattle.text_forms.proofs.hexadecimal.show_bytes.Needs as need
+use Rattle.text_forms.proofs.hexadecimal.show_bytes.Needs.{then-i-gt0, else-i-gt0}
 
 pub loop-i-again : need.loop-i-again
 loop-i-again c =

@@ -8,8 +8,8 @@ use Rattle.std.specs.declared.option.Option.{Option}
 use Rattle.std.specs.declared.option.Option.the-variants.{Some, None}
 use Rattle.line_format.specs.declared.message.Message.{Message}
 use Rattle.line_format.specs.declared.message.Message.the-variants as message
-use Rattle.line_text.specs.declared.form.Form.{Form}
-use Rattle.line_text.specs.declared.form.Form.the-variants.{MPayload, MPropose, MProposeAck, MCommit, MConsensus, MConsensusAck, MRec, MRecAck, MPromises}
+use Rattle.text_forms.specs.declared.form.Form.{Form}
+use Rattle.text_forms.specs.declared.form.Form.the-variants.{MPayload, MPropose, MProposeAck, MCommit, MConsensus, MConsensusAck, MRec, MRecAck, MPromises}
 
 abbrev pub form-of : Message → Form
 form-of (message.MPayload s i c set) = MPayload

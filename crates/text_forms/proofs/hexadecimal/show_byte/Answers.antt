@@ -4,9 +4,9 @@ use Prim.Native.Nat.{ℕ}
 use native.Mathlib.Omega.{arith}
 use Rattle.std.proofs.shelf.Results.{made-weaker}
 use Rattle.std.specs.Of.String.{string-bytes}
-use Rattle.line_text.specs.Hexadecimal.{spaced}
-use Rattle.line_text.proofs.Nibbles.{byte-encoded}
-use Rattle.line_text.proofs.hexadecimal.show_byte.Needs as need
+use Rattle.text_forms.specs.Hexadecimal.{spaced}
+use Rattle.text_forms.proofs.Nibbles.{byte-encoded}
+use Rattle.text_forms.proofs.hexadecimal.show_byte.Needs as need
 
 pub returns-then-space : need.returns-then-space
 returns-then-space c =

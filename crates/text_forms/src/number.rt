@@ -1,7 +1,7 @@
 //! Numbers in decimal: one text for each.
 
 ghost use mathlib.Core.Path.{_≡_};
-ghost use Rattle.line_text.specs.Numbers.{number};
+ghost use Rattle.text_forms.specs.Numbers.{number};
 /// The number that a text stands for: digits alone, no zero in front, below 2^32.
 pub fn number(text: &str) -> Option<u32>
     ensures { λ answer. ⌜ answer ≡ number (now (text .entry)) ⌝ }

@@ -7,7 +7,7 @@ ghost use Rattle.std.specs.Of.String.{string-bytes};
 ghost use Rattle.std.specs.Of.Vec.{vec-items};
 ghost use Rattle.std.specs.Options.{mapped};
 ghost use Rattle.std.specs.Vec.{made};
-ghost use Rattle.line_text.specs.Hexadecimal.{digit-value, hexadecimal, bytes-of, digit-of, spaced, bytes-text, Bytes-back};
+ghost use Rattle.text_forms.specs.Hexadecimal.{digit-value, hexadecimal, bytes-of, digit-of, spaced, bytes-text, Bytes-back};
 use std::alloc::AllocError;
 use std::alloc::Global;
 use std::fmt;

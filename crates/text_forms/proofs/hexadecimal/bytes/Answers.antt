@@ -7,10 +7,10 @@ use Rattle.std.proofs.Told.{chosen}
 use Rattle.std.specs.Of.Vec.{vec-items}
 use Rattle.std.specs.Options.{valueOr}
 use Rattle.std.specs.Results.{isOk}
-use Rattle.line_text.specs.Hexadecimal.{bytes-after, digit-value}
-use Rattle.line_text.proofs.Nibbles.{at-space, at-digit, at-first, at-second, ended-none, ended-some, digit-value-small}
-use Rattle.line_text.proofs.hexadecimal.bytes.Needs as need
-use Rattle.line_text.proofs.hexadecimal.bytes.Needs.{in-None, in-Some-high·in-Continue-push}
+use Rattle.text_forms.specs.Hexadecimal.{bytes-after, digit-value}
+use Rattle.text_forms.proofs.Nibbles.{at-space, at-digit, at-first, at-second, ended-none, ended-some, digit-value-small}
+use Rattle.text_forms.proofs.hexadecimal.bytes.Needs as need
+use Rattle.text_forms.proofs.hexadecimal.bytes.Needs.{in-None, in-Some-high·in-Continue-push}
 
 pub loop-c-again-then-c-eq32 : need.loop-c-again-then-c-eq32
 loop-c-again-then-c-eq32 c =

@@ -1,0 +1,3 @@
+pub mod Nibbles
+pub mod Numerals
+pub mod Texts
