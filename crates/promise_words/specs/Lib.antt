@@ -1,0 +1,4 @@
+pub mod Clocks
+pub mod Runs
+pub mod Stability
+pub mod Timestamps
