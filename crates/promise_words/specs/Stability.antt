@@ -1,5 +1,5 @@
 -- The stable timestamp of a group of r: the greatest s for which a majority's promises 1 to s are all known.
-use mathlib.Core.Bool.{Bool, cond}
+use mathlib.Core.Bool.{cond}
 use mathlib.Core.List.{List, [], _∷_}
 use Prim.Native.Nat.{ℕ, max, _<_, _≤_}
 use lib.Dec.{leb}

@@ -1,6 +1,5 @@
 //! The stable timestamp of a group.
 
-ghost use Prim.Native.Nat.{ℕ};
 ghost use lib.Dec.{leb};
 ghost use mathlib.Core.Path.{_≡_};
 ghost use Rattle.schedule.specs.Group.{majority};

@@ -2,7 +2,7 @@ use mathlib.Core.Path.{_≡_, sym, ap, ap₂, _∙_}
 use mathlib.Core.Bool.{Bool, _||_}
 use Prim.Native.Nat.{ℕ, suc, _+_, _-_, min, max}
 use native.Mathlib.Omega.{arith}
-use Rattle.promise_words.specs.Timestamps.{has, among, with-one, with-next, with-range}
+use Rattle.promise_words.specs.Timestamps.{has, among, with-one, with-next}
 use Rattle.promise_words.proofs.Members.{before, range-none, range-more, range-all}
 use Rattle.promise_words.proofs.timestamps.Timestamps.insert_range.Needs as need
 
