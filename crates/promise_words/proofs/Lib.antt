@@ -1,0 +1,4 @@
+pub mod Bits
+pub mod Majorities
+pub mod Members
+pub mod Runs
