@@ -1,11 +1,11 @@
 -- Bytes laid into a buffer: nothing, one part after the other, and a field more.
-use mathlib.Core.Path.{_≡_, refl, sym, ap, subst, _∙_}
+use mathlib.Core.Path.{_≡_, refl, sym, ap, _∙_}
 use mathlib.Core.List.{List, [], _∷_, _++_, append-assoc, append-nil}
 use Prim.Native.Nat.{ℕ, _+_, _*_, _≤_, _<_}
 use native.Mathlib.Omega.{arith}
 use native.Mathlib.Nat.{add-zero, add-assoc, mul-zero, mul-suc}
 use lib.ListN.{length, take, drop, getD, length-append}
-use Rattle.std.proofs.shelf.Lists.{take-append-drop, take-at, take-more, drop-at, drop-drop, length-take-le, getD-default}
+use Rattle.std.proofs.shelf.Lists.{take-append-drop, take-at, take-more, drop-at, drop-drop, length-take-le}
 use Rattle.line_format.specs.Fields.{fields}
 use Rattle.line_format.specs.Writing.{laid-at, laid-over}
 

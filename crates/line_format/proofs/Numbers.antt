@@ -1,9 +1,9 @@
 -- A number as bytes, and the bytes as the number again.
-use mathlib.Core.Path.{_≡_, refl, sym, ap, _∙_}
-use mathlib.Core.List.{List, [], _∷_, _++_}
+use mathlib.Core.Path.{_≡_, _∙_}
+use mathlib.Core.List.{[], _∷_, _++_}
 use Prim.Native.Nat.{ℕ, _+_, _*_, _/_, _%_, _<_}
 use native.Mathlib.Omega.{arith}
-use native.Mathlib.Nat.{mod-eq-of-lt, div-div-eq-div-mul, mod-add-div', div-lt-iff-lt-mul}
+use native.Mathlib.Nat.{mod-eq-of-lt, div-div-eq-div-mul}
 use lib.Arith.{mod-mul, digits-div}
 use lib.Dec.{lit<}
 use Rattle.line_format.specs.Fields.{int-bytes, hyper-bytes}

@@ -2,20 +2,19 @@
 use mathlib.Core.Path.{_≡_, refl, sym, ap, ap₂, subst, _∙_}
 use mathlib.Core.Bool.{Bool, true, false, cond, _&&_}
 use mathlib.Core.List.{List, [], _∷_, _++_, append-nil}
-use Prim.Native.Nat.{ℕ, zero, suc, _+_, _*_, _≤_, _<_}
+use Prim.Native.Nat.{ℕ, suc, _+_, _*_}
 use native.Mathlib.Omega.{arith}
-use native.Mathlib.Nat.{mul-suc}
-use lib.Dec.{leb, ltb, eqb}
+use lib.Dec.{ltb, eqb}
 use lib.ListN.{length, take, drop}
 use Rattle.std.proofs.shelf.Lists.{drop-all, take-at}
 use Rattle.std.proofs.shelf.Ways.{tells}
 use Rattle.std.specs.declared.result.Result.{Result}
 use Rattle.std.specs.declared.result.Result.the-variants.{Ok, Err}
-use Rattle.line_format.specs.Encoding.{ints, promises-bytes, encode}
+use Rattle.line_format.specs.Encoding.{ints, encode}
 use Rattle.line_format.specs.Fields.{int-bytes, hyper-bytes, pair-bytes, fields, int-at, hyper-at, pair-at, fields-at}
 use Rattle.line_format.specs.Laws.{Bytes, One-encoding, Never-two}
-use Rattle.line_format.specs.Limits.{within, words, most-pairs}
-use Rattle.line_format.specs.Reading.{no-pairs, promises-in, promises-shaped, shape, limited, reading}
+use Rattle.line_format.specs.Limits.{within, words}
+use Rattle.line_format.specs.Reading.{no-pairs, promises-in, promises-shaped, shape, limited}
 use Rattle.line_format.specs.declared.fault.LineFault.{LineFault}
 use Rattle.line_format.specs.declared.fault.LineFault.the-variants.{Malformed, OutsideLimits}
 use Rattle.line_format.specs.declared.message.Message.{Message}

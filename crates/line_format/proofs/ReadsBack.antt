@@ -1,10 +1,9 @@
 -- A message within its limits, read from what it is written as, is that message.
 use mathlib.Core.Path.{_≡_, refl, sym, ap, ap₂, subst, _∙_}
-use mathlib.Core.Bool.{Bool, true, false, not, cond, _&&_}
+use mathlib.Core.Bool.{true, false, not, _&&_}
 use mathlib.Core.List.{List, [], _∷_, _++_, append-assoc, append-nil}
-use Prim.Native.Nat.{ℕ, zero, suc, _+_, _-_, _*_, _/_, _%_, _^_, _≤_, _<_}
+use Prim.Native.Nat.{ℕ, suc, _+_, _-_, _*_, _/_, _%_, _^_, _≤_, _<_}
 use native.Mathlib.Omega.{arith}
-use native.Mathlib.Nat.{lt-of-lt-of-le}
 use lib.Dec.{ltb}
 use lib.ListN.{length, take, drop, getD, replicate, length-append}
 use lib.Pow.{pow-mono}
@@ -14,11 +13,11 @@ use Rattle.std.specs.Options.{isSome}
 use Rattle.std.specs.declared.result.Result.the-variants.{Ok}
 use Rattle.schedule.specs.Changes.{department-fits, kind-fits, hour-fits, slot-fits, value-fits}
 use Rattle.schedule.specs.Group.{id-fits, timestamp-fits, ballot-fits, changes-each}
-use Rattle.line_format.specs.Encoding.{ints, promises-bytes, encode}
-use Rattle.line_format.specs.Fields.{int-bytes, hyper-bytes, pair-bytes, fields, int-at, hyper-at, pair-at, fields-at}
+use Rattle.line_format.specs.Encoding.{ints, encode}
+use Rattle.line_format.specs.Fields.{hyper-bytes, pair-bytes, fields, int-at, hyper-at, pair-at, fields-at}
 use Rattle.line_format.specs.Laws.{Typed, Reads-back, No-longer, longest}
 use Rattle.line_format.specs.Limits.{checks, first-unfit, within, words, most-pairs, sender-fits, set-fits, phase-fits, accepted-fits, pairs-rise, pairs-fit, unused}
-use Rattle.line_format.specs.Reading.{no-pair, no-pairs, promises-in, promises-shaped, shape, limited, reading}
+use Rattle.line_format.specs.Reading.{no-pair, no-pairs, promises-shaped, shape, limited}
 use Rattle.line_format.specs.declared.limits.Check.{Check}
 use Rattle.line_format.specs.declared.message.Message.{Message}
 use Rattle.line_format.specs.declared.message.Message.the-variants.{MPayload, MPropose, MProposeAck, MCommit, MConsensus, MConsensusAck, MRec, MRecAck, MPromises}

@@ -1,9 +1,9 @@
 -- Fields in a row: read from what they are written as they come back, and what they are read from is what they are written as.
 use mathlib.Core.Path.{_≡_, refl, sym, ap, ap₂, subst, _∙_}
-use mathlib.Core.List.{List, [], _∷_, _++_, append-assoc, append-nil}
+use mathlib.Core.List.{List, [], _∷_, _++_, append-assoc}
 use Prim.Native.Nat.{ℕ, zero, suc, _+_, _*_, _/_, _%_, _≤_, _<_}
 use native.Mathlib.Omega.{arith}
-use native.Mathlib.Nat.{add-zero, add-assoc, mul-zero, mul-suc}
+use native.Mathlib.Nat.{add-zero, mul-zero, mul-suc}
 use lib.ListN.{length, drop, getD, length-append}
 use Rattle.std.proofs.shelf.Lists.{drop-more, getD-append-add, getD-at}
 use Rattle.line_format.specs.Fields.{int-bytes, hyper-bytes, pair-bytes, fields, int-at, hyper-at, pair-at, fields-at}

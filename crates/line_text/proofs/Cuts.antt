@@ -6,7 +6,7 @@ use Prim.Native.Nat.{ℕ, suc, _<_}
 use native.Mathlib.Omega.{arith}
 use denote.Ref.{RefT}
 use lib.Dec.{eqb}
-use lib.ListN.{length, getD, take, drop, length-drop, take-append-drop}
+use lib.ListN.{length, take, drop, length-drop, take-append-drop}
 use Rattle.std.proofs.shelf.Patterns.{without-char, drop-at-char}
 use Rattle.std.proofs.shelf.Ways.{eqb-tells}
 use Rattle.std.specs.Finds.{FindsChar, Parted}

@@ -1,5 +1,5 @@
 -- The text of a message with fixed fields, read back, is the message.
-use mathlib.Core.Path.{_≡_, refl, sym, ap, _∙_}
+use mathlib.Core.Path.{_≡_, refl, ap, _∙_}
 use mathlib.Core.Bool.{Bool, true, false, not, cond, _&&_}
 use mathlib.Core.List.{List, [], _∷_, _++_, map, append-assoc, append-nil}
 use Prim.Native.Nat.{ℕ, _^_, _≤_, _<_}
@@ -10,16 +10,14 @@ use lib.ListN.{length, length-append}
 use lib.Pow.{pow-mono}
 use Rattle.std.proofs.shelf.Ways.{tells}
 use Rattle.std.specs.Options.{isSome}
-use Rattle.std.specs.Written.{decimal}
 use Rattle.std.specs.declared.option.Option.{Option}
-use Rattle.std.specs.declared.option.Option.the-variants.{Some, None}
-use Rattle.std.specs.declared.result.Result.{Result}
+use Rattle.std.specs.declared.option.Option.the-variants.{Some}
 use Rattle.std.specs.declared.result.Result.the-variants.{Ok}
-use Rattle.schedule.specs.Changes.{department-fits, kind-fits, hour-fits, slot-fits, value-fits}
+use Rattle.schedule.specs.Changes.{hour-fits, slot-fits, value-fits}
 use Rattle.schedule.specs.Group.{id-fits, timestamp-fits, ballot-fits}
 use Rattle.schedule.specs.declared.change.Change.{Change}
 use Rattle.schedule.specs.declared.set.ControllerSet.{ControllerSet}
-use Rattle.line_format.specs.Limits.{within, sender-fits, set-fits, phase-fits, accepted-fits}
+use Rattle.line_format.specs.Limits.{sender-fits, set-fits, accepted-fits}
 use Rattle.line_format.specs.declared.limits.Field.{Field}
 use Rattle.line_format.specs.declared.limits.Field.the-variants.{Sender, Id, Department, Kind, Hour, Slot, Value, Set, Timestamp, Ballot, Phase, Accepted, Detached, Pairs}
 use Rattle.line_format.specs.declared.message.Message.{Message}
@@ -29,7 +27,7 @@ use Rattle.line_text.specs.Laws.{fixed, Reads-back}
 use Rattle.line_text.specs.Lists.{filled, pieces, words}
 use Rattle.line_text.specs.Reading.{number-at, change-at, set-at, reading, said}
 use Rattle.line_text.specs.Showing.{entry-numbers, numbers-text, text}
-use Rattle.line_text.specs.Values.{number-text, number-of, word}
+use Rattle.line_text.specs.Values.{number-text, word}
 use Rattle.line_text.proofs.Back.{lacks, lacks-at, lacks-append, Good, decimal-good, department-good, kind-good, phase-good, set-good, label-plain, number-at-back}
 use Rattle.line_text.proofs.Cuts.{pieces-at, pieces-whole}
 use Rattle.line_text.proofs.Words.{one-word}

@@ -1,6 +1,6 @@
 -- Reading a message from its words.
 use mathlib.Core.Bool.{cond}
-use mathlib.Core.List.{List, [], _∷_, map}
+use mathlib.Core.List.{List, [], map}
 use Prim.Native.Nat.{ℕ}
 use denote.Ref.{RefT}
 use lib.Dec.{ltb}

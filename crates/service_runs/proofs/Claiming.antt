@@ -1,18 +1,18 @@
 -- A claim that is done gives its department the say of the hour.
-use mathlib.Core.Bool.{true, cond}
-use mathlib.Core.Path.{_≡_, refl, sym, ap, _∙_}
+use mathlib.Core.Bool.{true}
+use mathlib.Core.Path.{_≡_, ap, _∙_}
 use Prim.Native.Nat.{ℕ, _<_}
 use native.Mathlib.Omega.{arith}
-use lib.ListN.{length, getD, set}
+use lib.ListN.{length}
 use Rattle.std.proofs.shelf.Lists.{getD-set-same}
 use Rattle.std.proofs.shelf.Ways.{tells}
 use Rattle.std.specs.declared.option.Option.the-variants.{None}
-use Rattle.schedule.specs.Changes.{hours, hour-fits, department-fits, department-of, change-fits}
+use Rattle.schedule.specs.Changes.{hour-fits, department-fits, department-of, change-fits}
 use Rattle.schedule.specs.declared.change.Change.{Change}
 use Rattle.schedule.specs.declared.change.Kind.the-variants.{Claim}
 use Rattle.service_runs.specs.Laws.{Claim-gives}
 use Rattle.services.specs.Rules.{is}
-use Rattle.services.specs.Say.{Says, say-number, say-at, say-becomes, say-judged, say-ruling, says-by, outcome-by, say-next, say-outcome}
+use Rattle.services.specs.Say.{say-number, say-at, say-judged, outcome-by, say-next, say-outcome}
 use Rattle.services.specs.declared.say.SayRuling.the-variants.{Becomes}
 
 -- the one ruling on a claim that is answered with 0

@@ -17,7 +17,7 @@ use Rattle.schedule.specs.declared.change.Department.{Department}
 use Rattle.schedule.specs.declared.change.Kind.the-variants.{Yield}
 use Rattle.service_runs.specs.Laws.{ran, by-other, without-others, yields, never-yields, Say-kept, Say-holds}
 use Rattle.services.specs.Rules.{is}
-use Rattle.services.specs.Say.{Says, say-number, say-at, say-becomes, say-judged, say-ruling, says-by, below-by, say-next}
+use Rattle.services.specs.Say.{Says, say-number, say-at, say-judged, say-ruling, says-by, below-by, say-next}
 use Rattle.services.specs.declared.say.SayRuling.{SayRuling}
 use Rattle.services.specs.declared.say.SayRuling.the-variants.{Below, Becomes, Refused}
 

@@ -1,7 +1,6 @@
 use mathlib.Core.Path.{sym, _∙_}
 use mathlib.Core.Bool.{false}
 use native.Mathlib.Omega.{arith}
-use native.Mathlib.Nat.{le-refl}
 use Rattle.std.proofs.shelf.Lists.{at-drop-more, at-drop-all}
 use Rattle.line_format.specs.Limits.{first-unfit}
 use Rattle.line_format.specs.declared.limits.Field.the-variants.{Sender}

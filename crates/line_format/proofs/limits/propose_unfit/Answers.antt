@@ -1,5 +1,5 @@
 use mathlib.Core.Path.{_≡_, sym, ap, _∙_}
-use mathlib.Core.List.{List, [], _∷_}
+use mathlib.Core.List.{[], _∷_}
 use Rattle.std.specs.declared.option.Option.{Option}
 use Rattle.line_format.specs.Limits.{entry-checks, timestamp-check, first-unfit, propose-checks}
 use Rattle.line_format.specs.declared.limits.Field.{Field}

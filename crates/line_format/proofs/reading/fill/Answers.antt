@@ -1,7 +1,5 @@
-use mathlib.Core.Path.{_≡_, ap, sym, _∙_}
-use Prim.Native.Nat.{_+_, _*_}
+use mathlib.Core.Path.{_≡_}
 use native.Mathlib.Omega.{arith}
-use lib.ListN.{length, set}
 use Rattle.line_format.proofs.Tables.{fill-none, fill-more}
 use Rattle.line_format.proofs.reading.fill.Needs as need
 

@@ -1,6 +1,6 @@
 use mathlib.Core.Path.{_≡_}
-use Prim.Native.Nat.{_+_, _≤_}
-use lib.ListN.{length, take, drop}
+use Prim.Native.Nat.{_+_}
+use lib.ListN.{length, take}
 use Rattle.line_format.specs.Fields.{fields}
 use Rattle.line_format.specs.Writing.{laid-at}
 use Rattle.line_format.proofs.writing.put_all.Given as given

@@ -1,11 +1,10 @@
 use mathlib.Core.Path.{_≡_, refl, sym, ap, _∙_}
-use mathlib.Core.List.{List, [], _∷_}
-use Prim.Native.Nat.{ℕ}
+use mathlib.Core.List.{[]}
 use native.Mathlib.Omega.{arith}
 use borrow.Author.Needs.{needs}
 use Rattle.std.specs.Matches.{split-text, split-live}
 use Rattle.std.specs.Parts.{split-callee}
-use Rattle.line_text.specs.Lists.{gathered, and-then, pieces}
+use Rattle.line_text.specs.Lists.{gathered, and-then}
 use Rattle.line_text.proofs.Cuts.{left, at-next, begun}
 use Rattle.text_forms.proofs.Texts.{passed, never}
 use Rattle.line_text.proofs.lists.gather.Given as given

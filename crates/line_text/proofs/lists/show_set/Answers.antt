@@ -1,13 +1,11 @@
-use mathlib.Core.Path.{_≡_, refl, sym, ap, _∙_}
-use mathlib.Core.List.{_++_, [], map}
+use mathlib.Core.Path.{refl, sym, ap, _∙_}
+use mathlib.Core.List.{_++_, map}
 use native.Mathlib.Omega.{arith}
-use borrow.Author.Needs.{needs}
 use Prim.Native.Nat.{_+_, _-_}
 use Rattle.std.proofs.shelf.Results.{made-weaker}
 use Rattle.std.specs.Of.String.{string-bytes}
 use Rattle.std.specs.Written.{decimal}
 use Rattle.line_text.specs.Lists.{list-from}
-use Rattle.line_text.specs.Sets.{members-from}
 use Rattle.line_text.proofs.Shown.{one-more, member-next, member-skip, members-done}
 use Rattle.line_text.proofs.lists.show_set.Needs as need
 use Rattle.line_text.proofs.lists.show_set.Needs.{then-contains·in-Continue-part·in-Continue-write, else-contains}

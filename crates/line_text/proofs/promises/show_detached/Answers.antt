@@ -1,11 +1,11 @@
-use mathlib.Core.Path.{_≡_, refl, sym, ap, _∙_}
-use mathlib.Core.List.{_++_, [], map}
+use mathlib.Core.Path.{sym, ap, _∙_}
+use mathlib.Core.List.{_++_, map}
 use native.Mathlib.Omega.{arith}
 use Prim.Native.Nat.{_-_}
 use Rattle.std.proofs.shelf.Results.{made-weaker}
 use Rattle.std.specs.Of.String.{string-bytes}
 use Rattle.line_text.specs.Lists.{list-from}
-use Rattle.line_text.specs.Promises.{has, range-text, ranges-from}
+use Rattle.line_text.specs.Promises.{range-text, ranges-from}
 use Rattle.line_text.proofs.Shown.{one-more, run-opens, run-waits, run-goes-on, run-ends, ranges-done}
 use Rattle.line_text.proofs.promises.show_detached.Needs as need
 use Rattle.line_text.proofs.promises.show_detached.Needs.{in-None·then-inside, in-None·else-inside, in-Some·then-not-inside·in-Continue-part·in-Continue-show-range, in-Some·else-not-inside}

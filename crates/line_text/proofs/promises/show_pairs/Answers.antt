@@ -1,8 +1,7 @@
-use mathlib.Core.Path.{_≡_, refl, sym, ap, _∙_}
+use mathlib.Core.Path.{sym, ap, _∙_}
 use mathlib.Core.Bool.{true}
-use mathlib.Core.List.{_++_, [], map}
+use mathlib.Core.List.{_++_, map}
 use native.Mathlib.Omega.{arith}
-use Prim.Native.Nat.{min}
 use lib.ListN.{take}
 use Rattle.std.proofs.shelf.Lists.{drop-more, drop-all}
 use Rattle.std.proofs.shelf.Results.{made-weaker}

@@ -1,8 +1,7 @@
-use mathlib.Core.Path.{_≡_, refl, sym, ap, _∙_}
+use mathlib.Core.Path.{sym, ap, _∙_}
 use mathlib.Core.List.{_++_, append-nil}
 use native.Mathlib.Omega.{arith}
 use borrow.Author.Tests.{true-eqb, false-eqb}
-use lib.ListN.{length}
 use Rattle.std.proofs.Told.{chosen}
 use Rattle.std.specs.Matches.{split-text, split-live}
 use Rattle.std.specs.Of.Vec.{vec-items}

@@ -1,5 +1,3 @@
-use Prim.Native.Nat.{_≤_}
-use lib.ListN.{length}
 use Rattle.ranking.specs.Ranking.{First-among}
 use Rattle.ranking.proofs.rank.first_in_rank.Given as given
 

@@ -1,9 +1,8 @@
-use mathlib.Core.Path.{_≡_, _∙_, refl}
-use Prim.Native.Nat.{ℕ}
+use mathlib.Core.Path.{_≡_, refl}
 use borrow.Author.Needs.{needs}
 use Rattle.service_runs.specs.Laws.{put-of}
-use Rattle.services.specs.Makes.{ledger-next, ledger-outcome}
-use Rattle.services.specs.Places.{Table, no-places}
+use Rattle.services.specs.Makes.{ledger-next}
+use Rattle.services.specs.Places.{no-places}
 use Rattle.service_runs.proofs.Limit.{near-the-limit}
 use Rattle.service_runs.proofs.run.near_the_limit.Needs as need
 

@@ -1,8 +1,6 @@
-use mathlib.Core.List.{_∷_}
-use mathlib.Core.Path.{_≡_, sym, ap, _∙_}
+use mathlib.Core.Path.{sym, ap, _∙_}
 use Prim.Native.Nat.{_+_}
-use borrow.Author.Needs.{needs}
-use lib.ListN.{drop, getD}
+use lib.ListN.{drop}
 use Rattle.std.proofs.shelf.Lists.{at-drop-more, at-drop-all}
 use Rattle.service_runs.specs.Laws.{ran}
 use Rattle.service_runs.proofs.run.run.Needs as need

@@ -1,13 +1,11 @@
 use mathlib.Core.Path.{_≡_, sym, ap, subst, _∙_}
-use mathlib.Core.List.{[]}
-use Prim.Native.Nat.{ℕ, _<_, _+_}
+use Prim.Native.Nat.{_<_}
 use native.Mathlib.Omega.{arith}
-use lib.ListN.{length, getD, drop}
+use lib.ListN.{getD}
 use Rattle.std.proofs.Told.{chosen}
-use Rattle.std.specs.Of.Vec.{vec-items}
 use Rattle.std.specs.Options.{valueOr}
 use Rattle.std.specs.Results.{isOk}
-use Rattle.text_forms.specs.Hexadecimal.{bytes-after, digit-value}
+use Rattle.text_forms.specs.Hexadecimal.{digit-value}
 use Rattle.text_forms.proofs.Nibbles.{at-space, at-digit, at-first, at-second, ended-none, ended-some, digit-value-small}
 use Rattle.text_forms.proofs.hexadecimal.bytes.Needs as need
 use Rattle.text_forms.proofs.hexadecimal.bytes.Needs.{in-None, in-Some-high·in-Continue-push}

@@ -1,5 +1,4 @@
 use mathlib.Core.Path.{_∙_}
-use native.Mathlib.Omega.{arith}
 use borrow.Author.Needs.{needs}
 use Rattle.std.proofs.shelf.Numerals.{parse-plain}
 use Rattle.text_forms.proofs.Numerals.{own, number-of-plus, number-of-zeros, number-of-parsed}
