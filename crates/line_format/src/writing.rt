@@ -7,7 +7,7 @@ ghost use lib.ListN.{length};
 ghost use Rattle.line_format.specs.Fields.{int-bytes, hyper-bytes, pair-bytes, fields};
 ghost use mathlib.Core.Bool.{true};
 ghost use Rattle.line_format.specs.Encoding.{promises-bytes, encode};
-ghost use Rattle.line_format.specs.Writing.{laid-at, laid-over, count-fits, writing, Written};
+ghost use Rattle.line_format.specs.Writing.{laid-at, count-fits, writing, Written};
 use crate::fault::LineFault;
 use crate::message::Message;
 use crate::message::PAIRS;

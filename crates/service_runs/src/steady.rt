@@ -1,9 +1,6 @@
 //! Services on which a refused change leaves no trace.
 
-ghost use mathlib.Core.Path.{_≡_};
-ghost use Rattle.schedule.specs.declared.change.Change.{Change};
 ghost use Rattle.service_runs.specs.Laws.{Refused-keeps};
-use schedule::Change;
 use services::booking::BreakLedgerService;
 use services::ledger::BreakLedger;
 use services::order::RunningOrder;
