@@ -5,8 +5,8 @@ use Rattle.line_format.specs.Limits.{pairs_rise}
 use Rattle.line_format.specs.Reading.{no_pair}
 use Rattle.line_format.proofs.limits.pairs_rise.Goals as goal
 
-pub returns-then-not-pair-fits : goal.returns-then-not-pair-fits
-returns-then-not-pair-fits c =
+pub returns-then-not-pair_fits : goal.returns-then-not-pair_fits
+returns-then-not-pair_fits c =
     let e = at_drop_more (pairs_rise c.args.figures.now.r c.loop-pair.last) c.args.pairs.now c.loop-pair.pair-index no_pair (omega arith) in grind (arith, nat_tests)
 
 pub loop-pair-preserved : goal.loop-pair-preserved

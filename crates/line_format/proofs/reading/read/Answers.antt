@@ -10,6 +10,6 @@ returns-in-None c =
     let r = c.args.figures.now.r in
     let f = c.args.figures.now.f in
     let
-    same : ◌≡◌ {A = Result Message LineFault} (Ok c.in-ok-message.message) (reading r f c.args.bytes.now)
+    same : ◌≡◌ {A = Result Message LineFault} (Ok c.in_ok-message.message) (reading r f c.args.bytes.now)
     = search rules in
-    record { value = same; encoded = one_encoding r f c.args.bytes.now (λ i. (c.type-inv.bytes i).fits) c.in-ok-message.message (sym same) }
+    record { value = same; encoded = one_encoding r f c.args.bytes.now (λ i. (c.type_inv.bytes i).fits) c.in_ok-message.message (sym same) }

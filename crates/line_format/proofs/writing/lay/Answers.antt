@@ -9,9 +9,9 @@ pub returns-in-MPromises : goal.returns-in-MPromises
 returns-in-MPromises c =
     let
     Laid : Message → Type 0
-    = λ m. (c.put-promises.result ≡ 0 + length (encode m)) × (c.put-promises.new.buffer ≡ laid_at 0 (encode m) c.args.buffer.now) in
+    = λ m. (c.put_promises.result ≡ 0 + length (encode m)) × (c.put_promises.new.buffer ≡ laid_at 0 (encode m) c.args.buffer.now) in
     let
     laid : Laid c.args.message.now
     = subst Laid (sym c.in-MPromises.is)
-    (laid_then 0 c.put-all-mid.result c.put-promises.result (ints (9 ∷ c.in-MPromises.sender ∷ [])) (promises_bytes c.in-MPromises.promises) c.args.buffer.now c.put-all-mid.new.buffer c.put-promises.new.buffer (omega arith) c.put-all-mid.ensures.place c.put-all-mid.ensures.after c.put-promises.ensures.place c.put-promises.ensures.after) in
+    (laid_then 0 c.put_all-mid.result c.put_promises.result (ints (9 ∷ c.in-MPromises.sender ∷ [])) (promises_bytes c.in-MPromises.promises) c.args.buffer.now c.put_all-mid.new.buffer c.put_promises.new.buffer (omega arith) c.put_all-mid.ensures.place c.put_all-mid.ensures.after c.put_promises.ensures.place c.put_promises.ensures.after) in
     record { place = laid.0 ∙ zero-add (length (encode c.args.message.now)); after = laid.1 }

@@ -11,5 +11,5 @@ pub returns : goal.returns
 returns c =
     record {
       place = refl;
-      after = part c.args.at (c.args.at + length c.args.bytes.now - c.args.at) c.args.buffer.now c.copy-from-slice.new.self c.args.bytes.now c.copy-from-slice.ensures.after (omega arith);
+      after = part c.args.at (c.args.at + length c.args.bytes.now - c.args.at) c.args.buffer.now c.copy_from_slice.new.self c.args.bytes.now c.copy_from_slice.ensures.after (omega arith);
     }

@@ -8,10 +8,10 @@ use Rattle.line_text.proofs.lists.gather.Goals as goal
 use Rattle.line_text.proofs.lists.gather.Goals.{After-with}
 
 pub loop-piece-init : goal.loop-piece-init
-loop-piece-init g c = (refl, ap split_pattern c.into-iter-piece-iterator.ensures.into-iter-gives ∙ c.split-piece-items.ensures.pattern, search rules, tt)
+loop-piece-init g c = (refl, ap split_pattern c.into_iter-piece-iterator.ensures.into_iter-gives ∙ c.split-piece-items.ensures.pattern, search rules, tt)
 
 -- what the next piece adds
-added : (g : given.Over) (c : After-with g) → gathered g.G.Gathering.adds c.args.start (left 44 (split_has_more c.into-iter-piece-iterator.result) (split_text c.into-iter-piece-iterator.result)) ≡ and_then c.with.result (λ b. gathered g.G.Gathering.adds b (left 44 (split_has_more c.next.new.self) (split_text c.next.new.self)))
+added : (g : given.Over) (c : After-with g) → gathered g.G.Gathering.adds c.args.start (left 44 (split_has_more c.into_iter-piece-iterator.result) (split_text c.into_iter-piece-iterator.result)) ≡ and_then c.with.result (λ b. gathered g.G.Gathering.adds b (left 44 (split_has_more c.next.new.self) (split_text c.next.new.self)))
 added g c =
     let adds = g.G.Gathering.adds in
     let s = c.in-Some.ensures.steps in
@@ -24,21 +24,21 @@ loop-piece-preserved g c =
     let adds = g.G.Gathering.adds in
     let s = c.in-Some.ensures.steps in
     let rest = left 44 (split_has_more c.next.new.self) (split_text c.next.new.self) in
-    (added g (goal.at.loop-piece-preserved g c).After-with ∙ ap (λ o. and_then o (λ b. gathered adds b rest)) c.in-ok-gathered.was, s.1.0 ∙ c.loop-piece.invariant.1, tt, tt)
+    (added g (goal.at.loop-piece-preserved g c).After-with ∙ ap (λ o. and_then o (λ b. gathered adds b rest)) c.in_ok-gathered.was, s.1.0 ∙ c.loop-piece.invariant.1, tt, tt)
 
-pub returns-in-err-gathered : goal.returns-in-err-gathered
-returns-in-err-gathered g c =
+pub returns-in_err-gathered : goal.returns-in_err-gathered
+returns-in_err-gathered g c =
     let adds = g.G.Gathering.adds in
     let rest = left 44 (split_has_more c.next.new.self) (split_text c.next.new.self) in
-    let made = c.into-iter-piece-iterator.ensures.into-iter-gives in
+    let made = c.into_iter-piece-iterator.ensures.into_iter-gives in
     let whole = begun 44 _ _ _ (ap split_has_more made ∙ c.split-piece-items.ensures.Has-more) (ap split_text made ∙ c.split-piece-items.ensures.text) in
-    let none = added g (goal.at.returns-in-err-gathered g c).After-with ∙ ap (λ o. and_then o (λ b. gathered adds b rest)) c.in-err-gathered.was in
+    let none = added g (goal.at.returns-in_err-gathered g c).After-with ∙ ap (λ o. and_then o (λ b. gathered adds b rest)) c.in_err-gathered.was in
     c.from-residual.ensures ∙ passed c.args.text.now _ _ (λ e. never (c.if-eq.ensures.1 e)) (sym none ∙ ap (gathered adds c.args.start) whole)
 
 pub returns : goal.returns
 returns g c =
     let adds = g.G.Gathering.adds in
-    let made = c.into-iter-piece-iterator.ensures.into-iter-gives in
+    let made = c.into_iter-piece-iterator.ensures.into_iter-gives in
     let whole = begun 44 _ _ _ (ap split_has_more made ∙ c.split-piece-items.ensures.Has-more) (ap split_text made ∙ c.split-piece-items.ensures.text) in
     let over : left 44 (split_has_more c.loop-piece.piece-iterator) (split_text c.loop-piece.piece-iterator) ≡ [] = ap (λ b. left 44 b (split_text c.loop-piece.piece-iterator)) (sym c.in-None.ensures.steps.0) in
     passed c.args.text.now _ _ (λ e. never (c.if-eq.ensures.1 e)) (sym (c.loop-piece.invariant.0 ∙ ap (gathered adds c.loop-piece.gathered) over) ∙ ap (gathered adds c.args.start) whole)

@@ -5,11 +5,11 @@ use Rattle.line_text.specs.Reading.{by_form, said, texts}
 use Rattle.line_text.proofs.Words.{texts_at, said_by}
 use Rattle.line_text.proofs.reading.read.Goals as goal
 
-pub returns-then-is-empty : goal.returns-then-is-empty
-returns-then-is-empty c = ap (λ l. said (texts l)) (sym (nil_from_length c.args.words.now (true-eqb _ 0 c.if-is-empty.ensures)))
+pub returns-then-is_empty : goal.returns-then-is_empty
+returns-then-is_empty c = ap (λ l. said (texts l)) (sym (nil_from_length c.args.words.now (true-eqb _ 0 c.if-is_empty.ensures)))
 
-pub returns-in-default : goal.returns-in-default
-returns-in-default c = ap (by_form (texts c.args.words.now)) (c.in-default.ensures ∙ ap form_named (texts_at c.args.words.now 0))
+pub returns-in_default : goal.returns-in_default
+returns-in_default c = ap (by_form (texts c.args.words.now)) (c.in_default.ensures ∙ ap form_named (texts_at c.args.words.now 0))
 
 pub returns-in-MPayload : goal.returns-in-MPayload
 returns-in-MPayload c = said_by c.args.words.now c.in-Some.form _ _ c.payload.ensures c.in-MPayload.is c.in-Some.ensures

@@ -12,7 +12,7 @@ unfolding value_at
 returns-then-at-words c =
     let e = length-map c.args.words.now (λ w. w.now) in
     let within : c.args.at < length (texts c.args.words.now) = omega arith in
-    let found = c.value-in.ensures ∙ ap (value_in c.args.field) (texts_at c.args.words.now c.args.at) in
+    let found = c.value_in.ensures ∙ ap (value_in c.args.field) (texts_at c.args.words.now c.args.at) in
     first_way _ _ (le-leb _ _ within) found
 
 pub returns-else-at-words : goal.returns-else-at-words

@@ -9,18 +9,18 @@ use Rattle.line_text.proofs.reading.words.Goals as goal
 
 pub loop-word-init : goal.loop-word-init
 loop-word-init c =
-    (ap (λ l. texts l ++ filled (left 32 (split_has_more c.into-iter-word-iterator.result) (split_text c.into-iter-word-iterator.result))) (sym c.new-words.ensures.items), ap split_pattern c.into-iter-word-iterator.ensures.into-iter-gives ∙ c.split-word-items.ensures.pattern, tt, tt)
+    (ap (λ l. texts l ++ filled (left 32 (split_has_more c.into_iter-word-iterator.result) (split_text c.into_iter-word-iterator.result))) (sym c.new-words.ensures.items), ap split_pattern c.into_iter-word-iterator.ensures.into_iter-gives ∙ c.split-word-items.ensures.pattern, tt, tt)
 
 pub loop-word-preserved : goal.loop-word-preserved
 loop-word-preserved c =
     let s = c.in-Some.ensures.steps in
     let rest = left 32 (split_has_more c.next.new.self) (split_text c.next.new.self) in
     let now = at_next 32 _ _ _ _ _ _ (omega arith) c.loop-word.invariant.1 (sym s.0) s.1.1 in
-    (c.loop-word.invariant.0 ∙ ap (λ l. texts (vec_items c.loop-word.words) ++ filled l) now ∙ ap (λ l. texts (vec_items c.loop-word.words) ++ l) (no_word c.in-Some.word.now rest (true-eqb _ 0 c.if-not-is-empty.ensures)), s.1.0 ∙ c.loop-word.invariant.1, tt, tt)
+    (c.loop-word.invariant.0 ∙ ap (λ l. texts (vec_items c.loop-word.words) ++ filled l) now ∙ ap (λ l. texts (vec_items c.loop-word.words) ++ l) (no_word c.in-Some.word.now rest (true-eqb _ 0 c.if-not-is_empty.ensures)), s.1.0 ∙ c.loop-word.invariant.1, tt, tt)
 
 pub returns : goal.returns
 returns c =
-    let made = c.into-iter-word-iterator.ensures.into-iter-gives in
+    let made = c.into_iter-word-iterator.ensures.into_iter-gives in
     let whole = begun 32 _ _ _ (ap split_has_more made ∙ c.split-word-items.ensures.Has-more) (ap split_text made ∙ c.split-word-items.ensures.text) in
     let over = ap (λ b. texts (vec_items c.loop-word.words) ++ filled (left 32 b (split_text c.loop-word.word-iterator))) (sym c.in-None.ensures.steps.0) in
     sym (append-nil (texts (vec_items c.loop-word.words))) ∙ sym (c.loop-word.invariant.0 ∙ over) ∙ ap filled whole
@@ -31,6 +31,6 @@ loop-word-preserved-in-Continue· c =
     let rest = left 32 (split_has_more c.next.new.self) (split_text c.next.new.self) in
     let now = at_next 32 _ _ _ _ _ _ (omega arith) c.loop-word.invariant.1 (sym s.0) s.1.1 in
     let before = vec_items c.loop-word.words in
-    let full = one_word c.in-Some.word.now rest (false-eqb _ 0 c.if-not-is-empty.ensures) in
-    let pushed = chosen _ _ _ _ c.push.ensures.items (ap is_ok c.in-ok-push.was) in
+    let full = one_word c.in-Some.word.now rest (false-eqb _ 0 c.if-not-is_empty.ensures) in
+    let pushed = chosen _ _ _ _ c.push.ensures.items (ap is_ok c.in_ok-push.was) in
     (c.loop-word.invariant.0 ∙ ap (λ l. texts before ++ filled l) now ∙ ap (λ l. texts before ++ l) full ∙ sym (pushed_word before c.in-Some.word (filled rest)) ∙ ap (λ l. texts l ++ filled rest) (sym pushed), s.1.0 ∙ c.loop-word.invariant.1, tt, tt)

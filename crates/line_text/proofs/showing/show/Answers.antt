@@ -6,17 +6,17 @@ use Rattle.line_text.proofs.Law.{reads_back, typed_reads_back}
 use Rattle.line_text.proofs.Shown.{one_then_one}
 use Rattle.line_text.proofs.showing.show.Goals as goal
 
-pub returns-in-err-write : goal.returns-in-err-write
-returns-in-err-write c = record { shown = search rules; back = reads_back; typed = typed_reads_back }
+pub returns-in_err-write : goal.returns-in_err-write
+returns-in_err-write c = record { shown = search rules; back = reads_back; typed = typed_reads_back }
 
 pub returns : goal.returns
 returns c =
     let name = c.name-name.ensures ∙ ap form_name c.of.ensures in
     let out = string_bytes c.args.out.now in
     record {
-      shown = IfOk-weaker c.show-fields.result _ _
-          (λ _ f. one_then_one out c.name-name.result.now (fields_text c.args.message.now) _ _ c.in-ok-write.ensures.bytes f ∙ ap (λ l. out ++ (l ++ fields_text c.args.message.now)) name)
-          c.show-fields.ensures;
+      shown = IfOk-weaker c.show_fields.result _ _
+          (λ _ f. one_then_one out c.name-name.result.now (fields_text c.args.message.now) _ _ c.in_ok-write.ensures.bytes f ∙ ap (λ l. out ++ (l ++ fields_text c.args.message.now)) name)
+          c.show_fields.ensures;
       back = reads_back;
       typed = typed_reads_back;
     }

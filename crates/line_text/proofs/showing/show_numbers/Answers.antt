@@ -14,7 +14,7 @@ loop-field-preserved c =
     let rest = numbers_text (drop (i + 1) es) in
     let before = string_bytes c.loop-field.out in
     let at = get_or es i (Sender, 0) in
-    ap (λ l. l ++ rest) c.in-ok-show-field.ensures ∙ append_assoc before (field_text at.0 (number_text at.0 at.1)) rest ∙ ap (λ l. before ++ l) (sym e) ∙ c.loop-field.invariant
+    ap (λ l. l ++ rest) c.in_ok-show_field.ensures ∙ append_assoc before (field_text at.0 (number_text at.0 at.1)) rest ∙ ap (λ l. before ++ l) (sym e) ∙ c.loop-field.invariant
 
 pub returns : goal.returns
 unfolding numbers_text

@@ -10,6 +10,6 @@ use Rattle.line_text.proofs.showing.show_promises.Goals as goal
 pub returns : goal.returns
 returns c =
     let given = c.args.promises.now in
-    IfOk-weaker c.show-pairs.result _ _
-    (λ _ f. all_five (string_bytes c.args.out.now) (numbers_text ((Sender, c.args.sender) ∷ [])) (32 ∷ (label Detached ++ (61 ∷ []))) (detached_text given.detached) (32 ∷ (label Pairs ++ (61 ∷ []))) (pairs_text given) _ _ _ _ _ c.in-ok-show-numbers.ensures c.in-ok-show-label.ensures c.in-ok-show-detached.ensures c.in-ok-show-label-2.ensures f)
-    c.show-pairs.ensures
+    IfOk-weaker c.show_pairs.result _ _
+    (λ _ f. all_five (string_bytes c.args.out.now) (numbers_text ((Sender, c.args.sender) ∷ [])) (32 ∷ (label Detached ++ (61 ∷ []))) (detached_text given.detached) (32 ∷ (label Pairs ++ (61 ∷ []))) (pairs_text given) _ _ _ _ _ c.in_ok-show_numbers.ensures c.in_ok-show_label.ensures c.in_ok-show_detached.ensures c.in_ok-show_label-2.ensures f)
+    c.show_pairs.ensures

@@ -31,7 +31,7 @@ returns c =
     let two : c.insert.new.self ≡ second no_words = ap set_of c.insert.ensures.value ∙ ap second c.none-second.ensures in
     record {
       three =
-          c.stable.ensures.value ∙ ap (λ (a : Timestamps). of_three a c.up-to-long.result c.up-to.result) two
-          ∙ ap₂ (of_three (second no_words)) c.up-to-long.ensures c.up-to.ensures ∙ three_is;
-      four = c.stable-2.ensures.value ∙ ap₂ of_four c.up-to-long.ensures c.up-to-short.ensures ∙ four_is;
+          c.stable.ensures.value ∙ ap (λ (a : Timestamps). of_three a c.up_to-long.result c.up_to.result) two
+          ∙ ap₂ (of_three (second no_words)) c.up_to-long.ensures c.up_to.ensures ∙ three_is;
+      four = c.stable-2.ensures.value ∙ ap₂ of_four c.up_to-long.ensures c.up_to-short.ensures ∙ four_is;
     }

@@ -5,7 +5,7 @@ use Rattle.schedule.specs.Group.{majority}
 use Rattle.promise_words.specs.Stability.{holders, greatest_run, stable_of, StableAt}
 use Rattle.promise_words.proofs.Majorities.{stable_at, greatest_more, takes, leaves_few, leaves_low}
 use Rattle.promise_words.proofs.stability.stable.Goals as goal
-use Rattle.promise_words.proofs.stability.stable.Goals.{then-run-best+then-held-by-majority, else-run-best, else-run-best-via-then-run-best+else-held-by-majority, else-run-best-via-else-run-best}
+use Rattle.promise_words.proofs.stability.stable.Goals.{then-run-best+then-held_by_majority, else-run-best, else-run-best-via-then-run-best+else-held_by_majority, else-run-best-via-else-run-best}
 
 pub loop-set-init : goal.loop-set-init
 loop-set-init c = omega arith
@@ -22,12 +22,12 @@ loop-set-preserved c =
     let all = sym (ap (max best) more) ∙ c.loop-set.invariant in
     let h = holders n group in
     elim c.if-run-best.branch [
-      | then-run-best+then-held-by-majority w ↦
-          ap (λ (b : ℕ). max b rest) w.best-is ∙ takes m h n rest best w.if-run-best.true (leb-true m h (sym w.held-by-majority.ensures ∙ w.if-held-by-majority.true)) ∙ all
+      | then-run-best+then-held_by_majority w ↦
+          ap (λ (b : ℕ). max b rest) w.best-is ∙ takes m h n rest best w.if-run-best.true (leb-true m h (sym w.held_by_majority.ensures ∙ w.if-held_by_majority.true)) ∙ all
       | else-run-best w ↦
           ap (λ (b : ℕ). max b rest) w.best-is
           ∙ (elim w.else-run-best.branch [
-            | else-run-best-via-then-run-best+else-held-by-majority v ↦ leaves_few m h n rest best (leb-false m h (sym v.held-by-majority.ensures ∙ v.if-held-by-majority.false))
+            | else-run-best-via-then-run-best+else-held_by_majority v ↦ leaves_few m h n rest best (leb-false m h (sym v.held_by_majority.ensures ∙ v.if-held_by_majority.false))
             | else-run-best-via-else-run-best v ↦ leaves_low m h n rest best v.if-run-best.false
           ])
           ∙ all

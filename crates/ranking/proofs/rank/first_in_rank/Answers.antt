@@ -5,7 +5,7 @@ use Rattle.ranking.proofs.Places.{place_within}
 use Rattle.ranking.proofs.Firsts.{only_first, any_order}
 use Rattle.ranking.proofs.Steps.{takes, keeps}
 use Rattle.ranking.proofs.rank.first_in_rank.Goals as goal
-use Rattle.ranking.proofs.rank.first_in_rank.Goals.{then-is-eligible+then-leads, else-is-eligible, else-is-eligible-via-then-is-eligible+else-leads, else-is-eligible-via-else-is-eligible}
+use Rattle.ranking.proofs.rank.first_in_rank.Goals.{then-is_eligible+then-leads, else-is_eligible, else-is_eligible-via-then-is_eligible+else-leads, else-is_eligible-via-else-is_eligible}
 
 pub leads-requires : goal.leads-requires
 leads-requires g c = place_within g.T.Ranked.eligible g.T.Ranked.before c.args.entries.now c.loop-i.i c.loop-i.first (omega arith) c.loop-i.invariant
@@ -20,15 +20,15 @@ loop-i-preserved g c =
     let at = slice_get_read xs _ i x refl c.loop-i-test.true c.index-entries-i.is in
     let first = c.loop-i.first in
     let Now : Option ℕ → Type 0 = FirstAmong m.eligible m.before xs (i + 1) in
-    elim c.if-is-eligible.branch [
-      | then-is-eligible+then-leads w ↦
-          subst Now (sym w.first_is) (takes laws.asymmetric laws.chains m.eligible xs i x at first c.loop-i.invariant (sym {b = m.eligible x} w.if-is-eligible.ensures) (sym {b = leads m.before xs first x} w.if-leads.ensures))
-      | else-is-eligible w ↦
+    elim c.if-is_eligible.branch [
+      | then-is_eligible+then-leads w ↦
+          subst Now (sym w.first_is) (takes laws.asymmetric laws.chains m.eligible xs i x at first c.loop-i.invariant (sym {b = m.eligible x} w.if-is_eligible.ensures) (sym {b = leads m.before xs first x} w.if-leads.ensures))
+      | else-is_eligible w ↦
           subst Now (sym w.first_is)
           (keeps m.eligible m.before xs i x at first c.loop-i.invariant
-          (elim w.else-is-eligible.branch [
-            | else-is-eligible-via-then-is-eligible+else-leads v ↦ inr (sym {b = leads m.before xs first x} v.if-leads.ensures)
-            | else-is-eligible-via-else-is-eligible v ↦ inl (sym {b = m.eligible x} v.if-is-eligible.ensures)
+          (elim w.else-is_eligible.branch [
+            | else-is_eligible-via-then-is_eligible+else-leads v ↦ inr (sym {b = leads m.before xs first x} v.if-leads.ensures)
+            | else-is_eligible-via-else-is_eligible v ↦ inl (sym {b = m.eligible x} v.if-is_eligible.ensures)
           ]))
     ]
 

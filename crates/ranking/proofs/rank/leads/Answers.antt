@@ -8,4 +8,4 @@ returns-in-Some g c =
     let xs = c.args.entries.now in
     let x = c.args.entry.now in
     let at = slice_get_read xs _ c.in-Some.i c.index-entries-i.result refl (search rules) c.index-entries-i.is in
-    c.is-before.ensures ∙ sym (ap (λ first. ahead g.T.Ranked.before x (entry_at xs first)) c.in-Some.is ∙ ap (ahead g.T.Ranked.before x) at)
+    c.is_before.ensures ∙ sym (ap (λ first. ahead g.T.Ranked.before x (entry_at xs first)) c.in-Some.is ∙ ap (ahead g.T.Ranked.before x) at)

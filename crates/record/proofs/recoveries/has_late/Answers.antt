@@ -6,11 +6,11 @@ use Rattle.record.proofs.recoveries.has_late.Goals as goal
 
 pub loop-i-preserved : goal.loop-i-preserved
 loop-i-preserved c =
-    sym (late_passes c.args.home c.args.set.now.bits c.args.replies.now c.loop-i.i (omega arith) (sym c.is-late.ensures ∙ c.if-is-late.false)) ∙ c.loop-i.invariant
+    sym (late_passes c.args.home c.args.set.now.bits c.args.replies.now c.loop-i.i (omega arith) (sym c.is_late.ensures ∙ c.if-is_late.false)) ∙ c.loop-i.invariant
 
-pub returns-then-is-late : goal.returns-then-is-late
-returns-then-is-late c =
-    sym (late_stops c.args.home c.args.set.now.bits c.args.replies.now c.loop-i.i (omega arith) (sym c.is-late.ensures ∙ c.if-is-late.true)) ∙ c.loop-i.invariant
+pub returns-then-is_late : goal.returns-then-is_late
+returns-then-is_late c =
+    sym (late_stops c.args.home c.args.set.now.bits c.args.replies.now c.loop-i.i (omega arith) (sym c.is_late.ensures ∙ c.if-is_late.true)) ∙ c.loop-i.invariant
 
 pub returns : goal.returns
 returns c = sym (at_drop_all (late_from c.args.home c.args.set.now.bits (c.loop-i.i + 1)) c.args.replies.now c.loop-i.i (omega arith)) ∙ c.loop-i.invariant

@@ -8,4 +8,4 @@ use Rattle.service_runs.proofs.run.near_the_limit.Goals as goal
 pub returns : goal.returns
 returns c =
     let full : c.carry_out.new.self.places.rows ≡ ledger_next no_places (put_of 1 0 0 700) = search rules in
-    record { law = near_the_limit; shown = rw (c.carry-out-2.ensures.answers, c.carry-out-3.ensures.answers, full, c.seconds-2.ensures, c.seconds-3.ensures) refl }
+    record { law = near_the_limit; shown = rw (c.carry_out-2.ensures.answers, c.carry_out-3.ensures.answers, full, c.seconds-2.ensures, c.seconds-3.ensures) refl }

@@ -4,8 +4,8 @@ use Rattle.std.proofs.lemmas.Bool.Decides.{nat_tests}
 use Rattle.text_forms.specs.Hexadecimal.{hexadecimal}
 use Rattle.text_forms.proofs.hexadecimal.is_hexadecimal.Goals as goal
 
-pub returns-then-is-none : goal.returns-then-is-none
-returns-then-is-none c =
+pub returns-then-is_none : goal.returns-then-is_none
+returns-then-is_none c =
     let e = at_drop_more hexadecimal c.args.text.now c.loop-c.c-index 0 (omega arith) in grind (arith, nat_tests)
 
 pub loop-c-preserved : goal.loop-c-preserved

@@ -13,12 +13,12 @@ loop-i-preserved c =
     let e = at_drop_more (text_from i) bs i 0 (omega arith) in
     let rest = text_from (i + 1) (drop (i + 1) bs) in
     let before = string_bytes c.loop-i.out in
-    let space : c.if-i-gt0.show-byte ≡ (ltb 0 i && eqb (i % 4) 0) = elim c.if-i-gt0.branch [ then-i-gt0 w ↦ grind (arith, nat_tests) | else-i-gt0 w ↦ grind (arith, nat_tests) ] in
-    ap (λ l. l ++ rest) c.in-ok-show-byte.ensures ∙ append_assoc before (spaced c.if-i-gt0.show-byte (get_or bs i 0)) rest
+    let space : c.if-i-gt0.show_byte ≡ (ltb 0 i && eqb (i % 4) 0) = elim c.if-i-gt0.branch [ then-i-gt0 w ↦ grind (arith, nat_tests) | else-i-gt0 w ↦ grind (arith, nat_tests) ] in
+    ap (λ l. l ++ rest) c.in_ok-show_byte.ensures ∙ append_assoc before (spaced c.if-i-gt0.show_byte (get_or bs i 0)) rest
     ∙ ap (λ s. before ++ (spaced s (get_or bs i 0) ++ rest)) space ∙ ap (λ l. before ++ l) (sym e) ∙ c.loop-i.invariant
 
-pub returns-in-err-show-byte : goal.returns-in-err-show-byte
-returns-in-err-show-byte c = record { shown = search rules; back = bytes_back }
+pub returns-in_err-show_byte : goal.returns-in_err-show_byte
+returns-in_err-show_byte c = record { shown = search rules; back = bytes_back }
 
 pub returns : goal.returns
 returns c =

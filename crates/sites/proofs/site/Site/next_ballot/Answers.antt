@@ -4,8 +4,8 @@ use Rattle.sites.specs.Sites.{first_own, next_ballot}
 use Rattle.sites.proofs.Ballots.{none_above, found, passed, least}
 use Rattle.sites.proofs.site.Site.next_ballot.Goals as goal
 
-pub returns-then-ballot-ge-LAST-BALLOT : goal.returns-then-ballot-ge-LAST-BALLOT
-returns-then-ballot-ge-LAST-BALLOT c =
+pub returns-then-ballot-ge-LAST_BALLOT : goal.returns-then-ballot-ge-LAST_BALLOT
+returns-then-ballot-ge-LAST_BALLOT c =
     let site = c.args.self.now in
     let r = site.figures.r in
     let is : next_ballot r site.own c.args.ballot ≡ None = none_above r site.own (suc (max r c.args.ballot)) r (omega arith) in

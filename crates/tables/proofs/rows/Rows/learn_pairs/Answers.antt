@@ -6,7 +6,7 @@ use Rattle.tables.proofs.rows.Rows.learn_pairs.Goals as goal
 
 pub loop-pair-preserved : goal.loop-pair-preserved
 loop-pair-preserved c =
-    learn_more c.args.self.now.rows c.loop-pair.known.words c.learn-pair.new.known.words c.args.pairs.now c.loop-pair.pair-index (omega arith) c.learn-pair.ensures
+    learn_more c.args.self.now.rows c.loop-pair.known.words c.learn_pair.new.known.words c.args.pairs.now c.loop-pair.pair-index (omega arith) c.learn_pair.ensures
     ∙ c.loop-pair.invariant
 
 pub returns : goal.returns

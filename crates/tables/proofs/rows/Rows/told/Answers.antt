@@ -9,4 +9,4 @@ promises ws n ps = record { detached = ws; count = n; pairs = ps }
 
 pub returns : goal.returns
 unfolding no_pairs
-returns c = ap₂ (promises c.args.detached.now.words) c.put-promises-count.ensures.count c.put-promises-count.ensures.table
+returns c = ap₂ (promises c.args.detached.now.words) c.put_promises-count.ensures.count c.put_promises-count.ensures.table
