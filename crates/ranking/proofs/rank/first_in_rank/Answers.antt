@@ -22,9 +22,9 @@ loop-i-preserved g c =
     let Now : Option ℕ → Type 0 = FirstAmong m.eligible m.before xs (i + 1) in
     elim c.if-is_eligible.branch [
       | then-is_eligible+then-leads w ↦
-          subst Now (sym w.first_is) (takes laws.asymmetric laws.chains m.eligible xs i x at first c.loop-i.invariant (sym {b = m.eligible x} w.if-is_eligible.ensures) (sym {b = leads m.before xs first x} w.if-leads.ensures))
+          subst Now (sym w.first-is) (takes laws.asymmetric laws.chains m.eligible xs i x at first c.loop-i.invariant (sym {b = m.eligible x} w.if-is_eligible.ensures) (sym {b = leads m.before xs first x} w.if-leads.ensures))
       | else-is_eligible w ↦
-          subst Now (sym w.first_is)
+          subst Now (sym w.first-is)
           (keeps m.eligible m.before xs i x at first c.loop-i.invariant
           (elim w.else-is_eligible.branch [
             | else-is_eligible-via-then-is_eligible+else-leads v ↦ inr (sym {b = leads m.before xs first x} v.if-leads.ensures)
