@@ -10,7 +10,7 @@ use crate::fault::NotUnderstood;
 use crate::lists::{cut, gather, show_set};
 use line_format::Field;
 use schedule::{ControllerSet, Department, Kind};
-use std::fmt;
+use std::alloc::AllocError;
 use text_forms::number::number;
 
 /// The name of a field.
@@ -143,7 +143,7 @@ pub(crate) fn number_of(field: Field, text: &str) -> Option<u32>
 }
 
 /// A word where there is one, else the number.
-fn show_word(word: Option<&str>, number: u32, out: &mut String) -> fmt::Result
+fn show_word(word: Option<&str>, number: u32, out: &mut String) -> Result<(), AllocError>
     ensures { OnOk result (string_bytes out.new ≡ string_bytes out.old ++ unwrap_or (option_map (λ x. x.now) word.entry) (decimal number)) }
 {
     match word {
@@ -153,7 +153,7 @@ fn show_word(word: Option<&str>, number: u32, out: &mut String) -> fmt::Result
 }
 
 /// A field's value as text: a word or a set's members where the field has such, else the number.
-pub(crate) fn show_number(field: Field, number: u32, out: &mut String) -> fmt::Result
+pub(crate) fn show_number(field: Field, number: u32, out: &mut String) -> Result<(), AllocError>
     ensures { OnOk result (string_bytes out.new ≡ string_bytes out.old ++ number_text field number) }
 {
     match field {

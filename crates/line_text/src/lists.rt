@@ -6,7 +6,7 @@ ghost use Rattle.line_text.specs.Lists.{cut, ends, listed, list_from};
 ghost use Rattle.line_text.specs.Sets.{with_member, set_text};
 
 use schedule::ControllerSet;
-use std::fmt;
+use std::alloc::AllocError;
 use text_forms::number::number;
 
 /// What stands before and after the first such character.
@@ -56,21 +56,21 @@ impl Gathering for ControllerSet {
 }
 
 /// A comma before every piece of a list but the first.
-pub(crate) fn part(first: bool, out: &mut String) -> fmt::Result
+pub(crate) fn part(first: bool, out: &mut String) -> Result<(), AllocError>
     ensures { OnOk result (string_bytes out.new ≡ string_bytes out.old ++ (if first then [] else 44 ∷ [])) }
 {
     if first { Ok(()) } else { write!(out, ",") }
 }
 
 /// The end of a list: `none` where there was no piece.
-pub(crate) fn finish(first: bool, out: &mut String) -> fmt::Result
+pub(crate) fn finish(first: bool, out: &mut String) -> Result<(), AllocError>
     ensures { OnOk result (string_bytes out.new ≡ string_bytes out.old ++ list_from [] first) }
 {
     if first { write!(out, "none") } else { Ok(()) }
 }
 
 /// A set's members as text.
-pub(crate) fn show_set(set: &ControllerSet, out: &mut String) -> fmt::Result
+pub(crate) fn show_set(set: &ControllerSet, out: &mut String) -> Result<(), AllocError>
     ensures { OnOk result (string_bytes out.new ≡ string_bytes out.old ++ set_text set.now.bits) }
 {
     let mut first = true;

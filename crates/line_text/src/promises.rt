@@ -6,7 +6,7 @@ ghost use Rattle.line_text.specs.Promises.{has, with_range, range_in, with_detac
 use crate::lists::{Gathering, cut, finish, part};
 use line_format::message::{PAIRS, WORDS};
 use line_format::{Pair, Promises};
-use std::fmt;
+use std::alloc::AllocError;
 use text_forms::number::number;
 
 /// How many timestamps the words have bits for.
@@ -125,7 +125,7 @@ impl Gathering for Pairs {
     }
 }
 
-fn show_range(first: u32, last: u32, out: &mut String) -> fmt::Result
+fn show_range(first: u32, last: u32, out: &mut String) -> Result<(), AllocError>
     ensures { OnOk result (string_bytes out.new ≡ string_bytes out.old ++ range_text (first, last)) }
 {
     if first == last {
@@ -136,7 +136,7 @@ fn show_range(first: u32, last: u32, out: &mut String) -> fmt::Result
 }
 
 /// Detached timestamps as ranges.
-pub(crate) fn show_detached(words: &[u64; WORDS], out: &mut String) -> fmt::Result
+pub(crate) fn show_detached(words: &[u64; WORDS], out: &mut String) -> Result<(), AllocError>
     ensures { OnOk result (string_bytes out.new ≡ string_bytes out.old ++ detached_text words.now) }
 {
     let detached = Detached { words: *words };
@@ -163,7 +163,7 @@ pub(crate) fn show_detached(words: &[u64; WORDS], out: &mut String) -> fmt::Resu
     finish(first, out)
 }
 
-fn show_pair(pair: &Pair, out: &mut String) -> fmt::Result
+fn show_pair(pair: &Pair, out: &mut String) -> Result<(), AllocError>
     ensures { OnOk result (string_bytes out.new ≡ string_bytes out.old ++ pair_text pair.now) }
 {
     let id = pair.id;
@@ -172,7 +172,7 @@ fn show_pair(pair: &Pair, out: &mut String) -> fmt::Result
 }
 
 /// Pairs as text.
-pub(crate) fn show_pairs(promises: &Promises, out: &mut String) -> fmt::Result
+pub(crate) fn show_pairs(promises: &Promises, out: &mut String) -> Result<(), AllocError>
     ensures { OnOk result (string_bytes out.new ≡ string_bytes out.old ++ pairs_text promises.now) }
 {
     let count = (promises.count as usize).min(PAIRS);

@@ -11,18 +11,19 @@ use crate::fields::{label, show_number};
 use crate::promises::{show_detached, show_pairs};
 use line_format::{Field, Message, Promises};
 use schedule::{Change, ControllerSet};
+use std::alloc::AllocError;
 use std::fmt;
 use text_forms::Form;
 
 /// A space, and then the name of a field and `=`.
-fn show_label(field: Field, out: &mut String) -> fmt::Result
+fn show_label(field: Field, out: &mut String) -> Result<(), AllocError>
     ensures { OnOk result (string_bytes out.new ≡ string_bytes out.old ++ (32 ∷ (label field ++ (61 ∷ [])))) }
 {
     let name = label(field);
     write!(out, " {name}=")
 }
 
-fn show_field(field: Field, number: u32, out: &mut String) -> fmt::Result
+fn show_field(field: Field, number: u32, out: &mut String) -> Result<(), AllocError>
     ensures { OnOk result (string_bytes out.new ≡ string_bytes out.old ++ field_text field (number_text field number)) }
 {
     show_label(field, out)?;
@@ -30,7 +31,7 @@ fn show_field(field: Field, number: u32, out: &mut String) -> fmt::Result
 }
 
 /// Fields, each with its number.
-fn show_numbers(fields: &[(Field, u32)], out: &mut String) -> fmt::Result
+fn show_numbers(fields: &[(Field, u32)], out: &mut String) -> Result<(), AllocError>
     ensures { OnOk result (string_bytes out.new ≡ string_bytes out.old ++ numbers_text fields.now) }
 {
     for (field, number) in fields {
@@ -46,7 +47,7 @@ fn show_change(
     change: &Change,
     set: &ControllerSet,
     out: &mut String,
-) -> fmt::Result
+) -> Result<(), AllocError>
     ensures { OnOk result (string_bytes out.new ≡ string_bytes out.old ++ numbers_text (entry_numbers sender id change.now set.now.bits)) }
 {
     show_numbers(
@@ -64,7 +65,7 @@ fn show_change(
     )
 }
 
-fn show_promises(sender: u32, promises: &Promises, out: &mut String) -> fmt::Result
+fn show_promises(sender: u32, promises: &Promises, out: &mut String) -> Result<(), AllocError>
     ensures { OnOk result (string_bytes out.new ≡ string_bytes out.old ++ fields_text (MPromises sender promises.now)) }
 {
     show_numbers(&[(Field::Sender, sender)], out)?;
@@ -75,7 +76,7 @@ fn show_promises(sender: u32, promises: &Promises, out: &mut String) -> fmt::Res
 }
 
 /// Adds a message's fields to a text.
-fn show_fields(message: &Message, out: &mut String) -> fmt::Result
+fn show_fields(message: &Message, out: &mut String) -> Result<(), AllocError>
     ensures { OnOk result (string_bytes out.new ≡ string_bytes out.old ++ fields_text message.now) }
 {
     match message {
@@ -166,5 +167,6 @@ pub fn show(message: &Message, out: &mut String) -> fmt::Result
 {
     let name = Form::of(message).name();
     write!(out, "{name}")?;
-    show_fields(message, out)
+    show_fields(message, out)?;
+    Ok(())
 }

@@ -6,7 +6,7 @@ use line_text::fields::label;
 use line_text::reading;
 use line_text::showing::show;
 use schedule::Figures;
-use std::alloc::Global;
+use std::alloc::{AllocError, Global};
 use std::fmt;
 use text_forms::hexadecimal::{bytes, is_hexadecimal, show_bytes};
 
@@ -54,7 +54,7 @@ impl Bench {
     }
 
     /// Adds the answer to a line that is no text.
-    pub(crate) fn no_text(&mut self, out: &mut String) -> fmt::Result {
+    pub(crate) fn no_text(&mut self, out: &mut String) -> Result<(), AllocError> {
         self.account.count_not_understood();
         write!(out, "not understood (not text)")
     }
@@ -101,14 +101,14 @@ impl Bench {
             }
             Err(fault) => {
                 self.account.count_refused(fault);
-                refuse(&self.figures, fault, message, out)
+                Ok(refuse(&self.figures, fault, message, out)?)
             }
         }
     }
 }
 
 /// The number of a message's refusal, and a few words why.
-fn refuse(figures: &Figures, fault: LineFault, message: &Message, out: &mut String) -> fmt::Result {
+fn refuse(figures: &Figures, fault: LineFault, message: &Message, out: &mut String) -> Result<(), AllocError> {
     let number = fault.number();
     match message.unfit(figures) {
         Some(field) if fault == LineFault::OutsideLimits => {
@@ -120,7 +120,7 @@ fn refuse(figures: &Figures, fault: LineFault, message: &Message, out: &mut Stri
 }
 
 /// The number of the refusal of bytes that have no message's shape, and a few words why.
-fn refuse_shape(fault: LineFault, bytes: &[u8], out: &mut String) -> fmt::Result {
+fn refuse_shape(fault: LineFault, bytes: &[u8], out: &mut String) -> Result<(), AllocError> {
     let number = fault.number();
     let length = bytes.len();
     match bytes {

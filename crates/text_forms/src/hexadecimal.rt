@@ -71,7 +71,7 @@ fn digit_of(value: u8) -> char
 }
 
 /// A byte, after a space where there is one.
-fn show_byte(space: bool, byte: u8, out: &mut String) -> fmt::Result
+fn show_byte(space: bool, byte: u8, out: &mut String) -> Result<(), AllocError>
     ensures { OnOk result (string_bytes out.new ≡ string_bytes out.old ++ spaced space byte) }
 {
     let high = digit_of(byte / 16);

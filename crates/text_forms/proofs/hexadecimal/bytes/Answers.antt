@@ -3,7 +3,7 @@ use Rattle.std.proofs.ResultArms.{chosen}
 use Rattle.text_forms.specs.Hexadecimal.{digit_value}
 use Rattle.text_forms.proofs.Nibbles.{at_space, at_digit, at_first, at_second, ended_none, ended_some, digit_value_small}
 use Rattle.text_forms.proofs.hexadecimal.bytes.Goals as goal
-use Rattle.text_forms.proofs.hexadecimal.bytes.Goals.{in-None, in-Some-high+in_ok-push}
+use Rattle.text_forms.proofs.hexadecimal.bytes.Goals.{in-None, in-Some-high+in_ok-push-in-Some-high}
 
 pub loop-c-preserved-then-c-eq32 : goal.loop-c-preserved-then-c-eq32
 loop-c-preserved-then-c-eq32 c =
@@ -29,7 +29,7 @@ loop-c-preserved c =
         let step = at_first c.args.text.now _ c.loop-c.c-index _ (omega arith) c.loop-c.invariant.0 _ w.in-None.is apart value in cc,
         subst (λ o. unwrap_or o 0 < 16) (sym w.high-is) (digit_value_small (get_or c.args.text.now c.loop-c.c-index 0) c.in-Some.value (sym value)),
       )
-      | in-Some-high+in_ok-push w ↦ (
+      | in-Some-high+in_ok-push-in-Some-high w ↦ (
         let step = at_second c.args.text.now _ c.loop-c.c-index _ (omega arith) c.loop-c.invariant.0 _ _ w.in-Some-high.is apart value in
             let pushed = chosen _ _ _ _ w.push.ensures.items (ap is_ok w.in_ok-push.was) in cc,
         subst (λ o. unwrap_or o 0 < 16) (sym w.high-is) (omega arith),
