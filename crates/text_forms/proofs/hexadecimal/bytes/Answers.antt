@@ -31,7 +31,7 @@ loop-c-preserved c =
       )
       | in-Some-high+in_ok-push-in-Some-high w ↦ (
         let step = at_second c.args.text.now _ c.loop-c.c-index _ (omega arith) c.loop-c.invariant.0 _ _ w.in-Some-high.is apart value in
-            let pushed = chosen _ _ _ _ w.push.ensures.items (ap is_ok w.in_ok-push.was) in cc,
+            let pushed = chosen _ _ _ _ w.push.ensures.items (ap is_ok w.in_ok-push-in-Some-high.was) in cc,
         subst (λ o. unwrap_or o 0 < 16) (sym w.high-is) (omega arith),
       )
     ]
