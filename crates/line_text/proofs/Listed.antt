@@ -3,7 +3,7 @@ use Rattle.std.proofs.Common.{◌≡◌, ℕ, ◌^◌, ◌<◌, true, false, eqb
 use Rattle.std.proofs.lemmas.Slice.Eq.{bytes_eq-Decides}
 use Rattle.std.proofs.lemmas.Bool.{cases_Bool, cond-false, false≢true}
 use Rattle.std.specs.Str.{bytes_eq}
-use Rattle.line_format.proofs.Checks.{Each}
+use Rattle.line_format.proofs.Rows.{Each}
 use Rattle.line_text.specs.Lists.{pieces, gathered, listed, list_from, list_text}
 use Rattle.line_text.proofs.Cuts.{pieces_at, pieces_whole}
 use Rattle.line_text.proofs.Back.{lacks, lacks_at, lacks_append, decimal_lacks}

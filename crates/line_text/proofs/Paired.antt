@@ -4,7 +4,7 @@ use Rattle.std.proofs.lemmas.List.{set_at, length_push, length-replicate, take-a
 use Rattle.std.proofs.lemmas.Bool.{cond-true}
 use Rattle.std.proofs.lemmas.Bool.Decides.{nat_tests}
 use Rattle.std.specs.Option.{option_map}
-use Rattle.line_format.proofs.Checks.{Each}
+use Rattle.line_format.proofs.Rows.{Each}
 use Rattle.line_format.specs.Limits.{most_pairs, pairs_rise, pairs_fit}
 use Rattle.line_format.specs.Reading.{no_pair, no_pairs}
 use Rattle.line_format.specs.declared.message.Message.TheVariants.{MPromises}

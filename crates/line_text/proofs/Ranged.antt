@@ -4,7 +4,7 @@ use lib.Bits.{bit_or}
 use Rattle.std.proofs.lemmas.Nat.{or_comm, or_shifted, mod-pow-add, mod_below, pow_pos}
 use Rattle.std.proofs.lemmas.Bool.{cases_lt, cond-true, cond_both}
 use Rattle.std.proofs.lemmas.Bool.Decides.{nat_tests}
-use Rattle.line_format.proofs.Checks.{Each}
+use Rattle.line_format.proofs.Rows.{Each}
 use Rattle.line_format.specs.Limits.{words}
 use Rattle.line_text.specs.Lists.{and_then, gathered, listed}
 use Rattle.line_text.specs.Promises.{bits, has, with_bit, with_bits, with_range, no_words, no_detached, range_cut, range_in, with_detached, ranges_from, range_text, detached_text}

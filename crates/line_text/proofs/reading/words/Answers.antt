@@ -9,7 +9,7 @@ use Rattle.line_text.proofs.reading.words.Goals as goal
 
 pub loop-word-init : goal.loop-word-init
 loop-word-init c =
-    (ap (λ l. texts l ++ filled (left 32 (split_has_more c.into_iter-word-iterator.result) (split_text c.into_iter-word-iterator.result))) (sym c.new-words.ensures.items), ap split_pattern c.into_iter-word-iterator.ensures.into_iter-gives ∙ c.split-word-items.ensures.pattern, tt, tt)
+    (ap (λ l. texts l ++ filled (left 32 (split_has_more c.into_iter-word-iterator.result) (split_text c.into_iter-word-iterator.result))) (sym c.new-words.ensures.items), ap split_pattern c.into_iter-word-iterator.ensures.into_iter_gives ∙ c.split-word-items.ensures.pattern, tt, tt)
 
 pub loop-word-preserved : goal.loop-word-preserved
 loop-word-preserved c =
@@ -20,13 +20,13 @@ loop-word-preserved c =
 
 pub returns : goal.returns
 returns c =
-    let made = c.into_iter-word-iterator.ensures.into_iter-gives in
-    let whole = begun 32 _ _ _ (ap split_has_more made ∙ c.split-word-items.ensures.Has-more) (ap split_text made ∙ c.split-word-items.ensures.text) in
+    let made = c.into_iter-word-iterator.ensures.into_iter_gives in
+    let whole = begun 32 _ _ _ (ap split_has_more made ∙ c.split-word-items.ensures.has_more) (ap split_text made ∙ c.split-word-items.ensures.text) in
     let over = ap (λ b. texts (vec_items c.loop-word.words) ++ filled (left 32 b (split_text c.loop-word.word-iterator))) (sym c.in-None.ensures.steps.0) in
     sym (append-nil (texts (vec_items c.loop-word.words))) ∙ sym (c.loop-word.invariant.0 ∙ over) ∙ ap filled whole
 
-pub loop-word-preserved-in-Continue· : goal.loop-word-preserved-in-Continue·
-loop-word-preserved-in-Continue· c =
+pub loop-word-preserved-in-Continue-1 : goal.loop-word-preserved-in-Continue-1
+loop-word-preserved-in-Continue-1 c =
     let s = c.in-Some.ensures.steps in
     let rest = left 32 (split_has_more c.next.new.self) (split_text c.next.new.self) in
     let now = at_next 32 _ _ _ _ _ _ (omega arith) c.loop-word.invariant.1 (sym s.0) s.1.1 in

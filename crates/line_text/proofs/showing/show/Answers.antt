@@ -1,5 +1,4 @@
 use Rattle.std.proofs.Common.{◌++◌, string_bytes, ap, ◌∙◌, rules}
-use Rattle.std.proofs.lemmas.Result.{IfOk-weaker}
 use Rattle.text_forms.specs.Forms.{form_name}
 use Rattle.line_text.specs.Showing.{fields_text}
 use Rattle.line_text.proofs.Law.{reads_back, typed_reads_back}
@@ -9,14 +8,15 @@ use Rattle.line_text.proofs.showing.show.Goals as goal
 pub returns-in_err-write : goal.returns-in_err-write
 returns-in_err-write c = record { shown = search rules; back = reads_back; typed = typed_reads_back }
 
+pub returns-in_err-show_fields : goal.returns-in_err-show_fields
+returns-in_err-show_fields c = record { shown = search rules; back = reads_back; typed = typed_reads_back }
+
 pub returns : goal.returns
 returns c =
     let name = c.name-name.ensures ∙ ap form_name c.of.ensures in
     let out = string_bytes c.args.out.now in
     record {
-      shown = IfOk-weaker c.show_fields.result _ _
-          (λ _ f. one_then_one out c.name-name.result.now (fields_text c.args.message.now) _ _ c.in_ok-write.ensures.bytes f ∙ ap (λ l. out ++ (l ++ fields_text c.args.message.now)) name)
-          c.show_fields.ensures;
+      shown = one_then_one out c.name-name.result.now (fields_text c.args.message.now) _ _ c.in_ok-write.ensures.bytes c.in_ok-show_fields.ensures ∙ ap (λ l. out ++ (l ++ fields_text c.args.message.now)) name;
       back = reads_back;
       typed = typed_reads_back;
     }
