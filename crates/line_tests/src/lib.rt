@@ -306,7 +306,7 @@ mod tests {
             assert!(rt; b == 0xee);
         }
         assert!(rt; write(&group, &good, &mut buffer).is_ok());
-        assert!(rt; &buffer[0..16] == &[0, 0, 0, 4, 0, 0, 0, 1, 0, 0, 0, 65, 0, 0, 0, 1]);
+        assert!(rt; &buffer[0..16] == [0, 0, 0, 4, 0, 0, 0, 1, 0, 0, 0, 65, 0, 0, 0, 1].as_slice());
         assert!(rt; buffer[16] == 0xee && buffer[2047] == 0xee);
         Ok(())
     }

@@ -4,7 +4,7 @@ ghost use Rattle.std.specs.Prelude.{◌≡◌};
 ghost use Rattle.record.specs.Phases.{phase_number, phase_of, pending, settled};
 
 /// How far a change has come. `RecoverR` promised in a take-over, `RecoverP` on the home's proposal.
-#[derive(Clone, Copy, PartialEq)]
+#[derive(Clone, Copy, PartialEq, Debug)]
 pub enum Phase {
     Start,
     Payload,

@@ -4,7 +4,6 @@
 mod tests {
     use line_format::Message;
     use promise_words::Clock;
-    use record::phase::PhaseDebug;
     use record::{Phase, Row};
     use rules::senders::is_rightful;
     use schedule::{Change, ControllerSet, Figures};
