@@ -1,5 +1,7 @@
 // The laws of a group of controllers, in the abstract: each stands on the contract of one small function.
 // Nothing here knows what a change asks for, how it is numbered, or how large a group may be.
+#![tactic(auto)]
+
 ghost use Rattle.std.specs.Prelude.{◌≡◌};
 ghost use Rattle.agreement.specs.Sets.{fast_quorum, majority, count, bits, BitsAreMembers};
 ghost use Rattle.agreement.specs.OneChange.{OneTimestamp};

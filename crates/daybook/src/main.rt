@@ -1,4 +1,5 @@
 //! Tries a plan on a service: a line of standard input for each change, a line of standard output for what came of it.
+#![tactic(auto)]
 
 mod told;
 

@@ -1,6 +1,5 @@
 -- The one encoding of each message: its type, its sender, then its fields.
 use Rattle.std.specs.Prelude.{ℕ, List, [], ◌∷◌, ◌++◌, take}
-use Rattle.schedule.specs.declared.change.Change.{Change}
 use Rattle.line_format.specs.Fields.{int_bytes, hyper_bytes, pair_bytes, fields}
 use Rattle.line_format.specs.declared.message.Promises.{Promises}
 use Rattle.line_format.specs.declared.message.Message.{Message}

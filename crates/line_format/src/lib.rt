@@ -1,4 +1,5 @@
 //! The line format: the nine messages that controllers exchange, read from bytes and written as bytes.
+#![tactic(auto)]
 
 pub mod fault;
 pub mod laws;

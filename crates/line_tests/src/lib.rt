@@ -1,4 +1,5 @@
 //! Tests of the line format: every refusal, and the first and last good value of every field.
+#![tactic(auto)]
 
 #[cfg(test)]
 mod tests {

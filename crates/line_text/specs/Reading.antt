@@ -7,7 +7,6 @@ use Rattle.line_format.specs.declared.limits.Field.{Field}
 use Rattle.line_format.specs.declared.limits.Field.TheVariants.{Sender, Id, Department, Kind, Hour, Slot, Value, Set, Timestamp, Ballot, Phase, Accepted, Detached, Pairs}
 use Rattle.line_format.specs.declared.message.Message.{Message}
 use Rattle.line_format.specs.declared.message.Message.TheVariants.{MPayload, MPropose, MProposeAck, MCommit, MConsensus, MConsensusAck, MRec, MRecAck, MPromises}
-use Rattle.line_format.specs.declared.message.Promises.{Promises}
 use Rattle.text_forms.specs.Forms.{form_named}
 use Rattle.line_text.specs.Lists.{listed, words}
 use Rattle.line_text.specs.Promises.{with_detached, no_detached, with_pair, none_yet}

@@ -1,4 +1,5 @@
 //! Messages of the line in words: as text, and read back from text.
+#![tactic(auto)]
 
 pub mod fault;
 pub mod fields;

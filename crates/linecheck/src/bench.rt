@@ -108,7 +108,12 @@ impl Bench {
 }
 
 /// The number of a message's refusal, and a few words why.
-fn refuse(figures: &Figures, fault: LineFault, message: &Message, out: &mut String) -> Result<(), AllocError> {
+fn refuse(
+    figures: &Figures,
+    fault: LineFault,
+    message: &Message,
+    out: &mut String,
+) -> Result<(), AllocError> {
     let number = fault.number();
     match message.unfit(figures) {
         Some(field) if fault == LineFault::OutsideLimits => {

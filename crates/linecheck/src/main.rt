@@ -1,5 +1,6 @@
 //! linecheck: the line format's bench tool. Messages in hexadecimal or in words in, one a line;
 //! what each says, or why it is refused, out.
+#![tactic(auto)]
 
 mod account;
 mod bench;

@@ -1,6 +1,5 @@
 -- A plan tried on a service: replies, and the count of outcomes.
 use Rattle.std.specs.Prelude.{ℕ, ◌+◌, ◌-◌, ◌^◌, min, cond, List, replicate, nat_lt, slice_index, slice_set}
-use Rattle.schedule.specs.declared.change.Change.{Change}
 use Rattle.plans.specs.Books.{BookState, book_next, book_outcome, book_reads}
 use Rattle.plans.specs.declared.day.Reply.{Reply}
 use Rattle.plans.specs.declared.day.Reply.TheVariants.{Outcome, Holds}

@@ -1,4 +1,5 @@
 //! Plans: lines that ask for changes and readings, and the service that they are tried on.
+#![tactic(auto)]
 
 pub mod book;
 pub mod day;

@@ -1,4 +1,5 @@
 //! The clock of a controller, sets of timestamps, and the stable timestamp of a group.
+#![tactic(auto)]
 
 pub mod clock;
 pub mod samples;

@@ -1,4 +1,5 @@
 //! The first in rank of a slice of entries, for every kind of entry that has a rank.
+#![tactic(auto)]
 
 pub mod accepted;
 pub mod due;

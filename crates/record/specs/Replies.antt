@@ -1,5 +1,5 @@
 -- Replies to a proposal and to an acceptance, by controller.
-use Rattle.std.specs.Prelude.{ℕ, suc, ◌-◌, ◌^◌, max, Bool, true, cond, not, ◌&&◌, ◌||◌, List, [], ◌∷◌, set, replicate, Some, None, count_by, Option, ◌==◌, bit_or, nat_eq, nat_le, slice_index, slice_set}
+use Rattle.std.specs.Prelude.{ℕ, suc, ◌-◌, ◌^◌, max, Bool, true, cond, not, ◌&&◌, ◌||◌, List, [], ◌∷◌, replicate, Some, None, count_by, Option, ◌==◌, bit_or, nat_eq, nat_le, slice_index, slice_set}
 use Rattle.schedule.specs.Sets.{member}
 use Rattle.record.specs.declared.proposals.Decision.{Decision}
 use Rattle.record.specs.declared.proposals.Decision.TheVariants.{Fast, Slow}

@@ -1,4 +1,5 @@
 //! The record that a controller keeps of a change: its phase, the replies gathered, its timestamps and ballots.
+#![tactic(auto)]
 
 pub mod acks;
 pub mod phase;

@@ -1,4 +1,5 @@
 //! Tests of the record of a change: what replies to a proposal decide, and what replies to a take-over leave to choose.
+#![tactic(auto)]
 
 #[cfg(test)]
 mod tests {

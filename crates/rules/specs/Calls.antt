@@ -1,6 +1,6 @@
 -- The five calls of a controller: from its state and the input to a refusal, or to the new state, the answer and the
 -- messages handed out. Tests come in the order of their numbers; a refusal changes nothing and hands out nothing.
-use Rattle.std.specs.Prelude.{ℕ, ◌+◌, Bool, cond, not, ◌&&◌, List, [], ◌∷◌, Some, None, Ok, Err, Option, Result, nat_le, nat_lt, slice_index_or}
+use Rattle.std.specs.Prelude.{ℕ, ◌+◌, cond, not, ◌&&◌, List, [], ◌∷◌, Some, None, Ok, Err, Option, Result, nat_le, nat_lt, slice_index_or}
 use Rattle.schedule.specs.Changes.{change_fits}
 use Rattle.schedule.specs.Group.{changes_each, id_fits}
 use Rattle.schedule.specs.Sets.{fast_set}

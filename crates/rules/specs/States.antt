@@ -4,7 +4,6 @@ use Rattle.schedule.specs.Group.{changes_each}
 use Rattle.promise_words.specs.Clocks.{first_clock}
 use Rattle.promise_words.specs.Timestamps.{no_words}
 use Rattle.promise_words.specs.declared.clock.Clock.{Clock}
-use Rattle.promise_words.specs.declared.timestamps.Timestamps.{Timestamps}
 use Rattle.record.specs.Replies.{seats}
 use Rattle.record.specs.Rows.{blank}
 use Rattle.record.specs.declared.row.Row.{Row}

@@ -1,4 +1,5 @@
 //! The rules of a controller: its whole state, and each of its calls as a definition.
+#![tactic(auto)]
 
 pub mod core;
 pub mod senders;

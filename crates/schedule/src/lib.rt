@@ -1,5 +1,6 @@
 //! What every part of the product shares: the figures of a group, the numbers of changes and ballots,
 //! a change with its limits, and sets of controllers.
+#![tactic(auto)]
 
 pub mod change;
 pub mod figures;

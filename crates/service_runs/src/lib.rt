@@ -1,4 +1,5 @@
 //! Whole runs of changes on services, and the laws that hold of them.
+#![tactic(auto)]
 
 pub mod run;
 pub mod steady;

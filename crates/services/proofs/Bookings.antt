@@ -4,7 +4,7 @@ use Rattle.std.proofs.lemmas.Bool.Decides.{nat_tests}
 use Rattle.schedule.specs.Changes.{hour_fits, slot_fits}
 use Rattle.schedule.specs.declared.change.Change.{Change}
 use Rattle.services.specs.Makes.{held_at, table_by, ledger_ruling, ledger_next}
-use Rattle.services.specs.Places.{Table, row, place, with_place, hour_seconds, hour_total, hours_within}
+use Rattle.services.specs.Places.{Table, row, with_place, hour_seconds, hour_total, hours_within}
 use Rattle.services.specs.Rules.{judged}
 use Rattle.services.specs.declared.answer.Answer.{Answer}
 use Rattle.services.proofs.Sums.{row_within, set_within, sum_set}

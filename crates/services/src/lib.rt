@@ -1,5 +1,6 @@
 //! Services: what carrying out a change does. A trait says what a service is; the running order and the
 //! break ledger are two makes of it, and final say is a layer over any.
+#![tactic(auto)]
 
 pub mod answer;
 pub mod booking;

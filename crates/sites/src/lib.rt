@@ -1,4 +1,5 @@
 //! The controller at a site: which numbers belong to it, whom it addresses, and why it turns down a call.
+#![tactic(auto)]
 
 pub mod numbers;
 pub mod refusal;

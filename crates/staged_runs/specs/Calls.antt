@@ -2,7 +2,6 @@
 use Rattle.std.specs.Prelude.{◌≡◌, ℕ, List, [], ◌∷◌, map, Some, None, Ok, Err, Option, Result}
 use Rattle.schedule.specs.declared.change.Change.{Change}
 use Rattle.line_format.specs.Encoding.{encode}
-use Rattle.line_format.specs.declared.fault.LineFault.TheVariants.{ShortBuffer, Malformed, OutsideLimits}
 use Rattle.line_format.specs.declared.message.Message.TheVariants.{MPayload, MPropose, MCommit, MConsensus}
 use Rattle.services.specs.Makes.{order_next, order_outcome}
 use Rattle.services.specs.Places.{no_places}

@@ -8,7 +8,6 @@ use Rattle.promise_words.specs.declared.clock.Clock.{Clock}
 use Rattle.record.specs.Rows.{blank}
 use Rattle.record.specs.declared.phase.Phase.{Phase}
 use Rattle.record.specs.declared.row.Row.{Row}
-use Rattle.sites.specs.Sending.{to_others}
 use Rattle.sites.specs.declared.refusal.Refusal.{Refusal}
 use Rattle.sites.specs.declared.sent.Sent.{Sent}
 use Rattle.steps.specs.Steps.{Left, step, entering, taking_over}

@@ -1,4 +1,5 @@
 //! Runs of the rules, staged message by message and proved together.
+#![tactic(auto)]
 
 ghost use Rattle.std.specs.Prelude.{◌≡◌, Some};
 ghost use Rattle.record.specs.declared.proposals.Decision.TheVariants.{Fast};

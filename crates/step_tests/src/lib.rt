@@ -1,4 +1,5 @@
 //! Tests of the steps: runs of a change message by message, the refusals, and who may send what.
+#![tactic(auto)]
 
 #[cfg(test)]
 mod tests {

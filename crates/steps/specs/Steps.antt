@@ -1,7 +1,7 @@
 -- The steps: what a message, an entry and a take-over do to the record of a change and to the clock, at controller
 -- `own` of a group of r, of which f may be silent.
 use Prim.{tt}
-use Rattle.std.specs.Prelude.{◌≡◌, ℕ, ◌+◌, Bool, true, false, cond, not, ◌&&◌, Some, None, Ok, Err, Option, Result, ◌==◌, nat_le, nat_lt}
+use Rattle.std.specs.Prelude.{◌≡◌, ℕ, ◌+◌, Bool, true, cond, not, ◌&&◌, Some, None, Ok, Err, Option, Result, ◌==◌, nat_le, nat_lt}
 use Rattle.schedule.specs.Group.{slow_quorum, takeover_quorum}
 use Rattle.schedule.specs.Sets.{size, member}
 use Rattle.schedule.specs.declared.change.Change.{Change}
@@ -16,7 +16,7 @@ use Rattle.record.specs.Replies.{fresh, with_timestamp, decision, with_member, n
 use Rattle.record.specs.Choosing.{no_recoveries, unheard, with_recovery, heard, choice}
 use Rattle.record.specs.Rows.{no_proposals, no_acks, in_phase, with_change, at_timestamp, at_ballots, with_promise, with_replies}
 use Rattle.record.specs.declared.phase.Phase.{Phase}
-use Rattle.record.specs.declared.phase.Phase.TheVariants.{Start, Payload, Propose, RecoverR, RecoverP, Commit, CarriedOut}
+use Rattle.record.specs.declared.phase.Phase.TheVariants.{Payload, Propose, RecoverR, RecoverP, Commit}
 use Rattle.record.specs.declared.proposals.Decision.{Decision}
 use Rattle.record.specs.declared.proposals.Decision.TheVariants.{Fast, Slow}
 use Rattle.record.specs.declared.recoveries.Recovery.{Recovery}

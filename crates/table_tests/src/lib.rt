@@ -1,4 +1,5 @@
 //! Tests of the table of records: the change that is due, and what is told and learnt of promises.
+#![tactic(auto)]
 
 #[cfg(test)]
 mod tests {

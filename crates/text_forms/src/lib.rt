@@ -1,4 +1,5 @@
 //! The forms that text about messages is made of: names of messages, decimal numbers, bytes in hexadecimal.
+#![tactic(auto)]
 
 pub mod form;
 pub mod hexadecimal;

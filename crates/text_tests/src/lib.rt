@@ -1,4 +1,5 @@
 //! Tests of messages in words and of bytes in hexadecimal: the edges of the text forms.
+#![tactic(auto)]
 
 #[cfg(test)]
 mod tests {

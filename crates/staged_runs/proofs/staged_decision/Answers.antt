@@ -1,5 +1,4 @@
-use Rattle.std.proofs.Common.{◌≡◌, refl}
-use Rattle.line_format.specs.Encoding.{encode}
+use Rattle.std.proofs.Common.{refl}
 use Rattle.promise_words.specs.Runs.{run_past, unbroken}
 use Rattle.promise_words.specs.Timestamps.{no_words}
 use Rattle.steps.specs.Steps.{gathered}

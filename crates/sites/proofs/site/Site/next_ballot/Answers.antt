@@ -1,4 +1,3 @@
-use Prim.{tt}
 use Rattle.std.proofs.Common.{◌≡◌, suc, ◌+◌, ◌-◌, max, Some, None, sym, ap, ◌∙◌, arith}
 use Rattle.sites.specs.Sites.{first_own, next_ballot}
 use Rattle.sites.proofs.Ballots.{none_above, found, passed, least}
