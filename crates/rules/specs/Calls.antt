@@ -24,7 +24,7 @@ use Rattle.sites.specs.declared.refusal.Refusal.TheVariants.{Line, WrongSender, 
 use Rattle.sites.specs.declared.sent.Sent.{Sent}
 use Rattle.rules.specs.Senders.{rightful}
 use Rattle.rules.specs.States.{nth_id, row_of, with_row, with_entered, known_of, with_known}
-use Rattle.rules.specs.declared.core.Core.{Core}
+use Rattle.rules.specs.declared.state.Core.{Core}
 
 -- what a call leaves and answers
 pub record Called (A : Type 0) : Type 0 where

@@ -9,7 +9,7 @@ use Rattle.record.specs.Rows.{blank}
 use Rattle.record.specs.declared.row.Row.{Row}
 use Rattle.tables.specs.Tables.{blank_rows}
 use Rattle.sites.specs.declared.site.Site.{Site}
-use Rattle.rules.specs.declared.core.Core.{Core}
+use Rattle.rules.specs.declared.state.Core.{Core}
 
 -- All starts at 0.
 abbrev pub first_core : Site → Core

@@ -11,7 +11,7 @@ use Rattle.sites.specs.declared.site.Site.{Site}
 use Rattle.tables.specs.Tables.{blank_rows}
 use Rattle.rules.specs.Calls.{enter, deliver, take_over, carry_out}
 use Rattle.rules.specs.States.{first_core}
-use Rattle.rules.specs.declared.core.Core.{Core}
+use Rattle.rules.specs.declared.state.Core.{Core}
 use Rattle.staged_runs.specs.Calls.{CallsOf, StagedCalls, refused, answered, after}
 use Rattle.staged_runs.specs.Runs.{spot, members}
 

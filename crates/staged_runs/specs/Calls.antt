@@ -12,7 +12,7 @@ use Rattle.sites.specs.declared.site.Site.{Site}
 use Rattle.rules.specs.Calls.{Called, enter, deliver, take_over, tell, carry_out}
 use Rattle.rules.specs.Outgoing.{Handed, handed_out}
 use Rattle.rules.specs.States.{first_core, with_entered}
-use Rattle.rules.specs.declared.core.Core.{Core}
+use Rattle.rules.specs.declared.state.Core.{Core}
 use Rattle.staged_runs.specs.Runs.{spot, members}
 
 -- the number of a refusal; 0 where nothing is refused
