@@ -23,7 +23,7 @@ pub struct Promises {
     pub pairs: [Pair; PAIRS],
 }
 
-/// A message of the line. Its numbers may be anything; `judge` says whether they are within their limits.
+/// A message of the line. Its numbers may be anything; `unfit` says whether they are within their limits.
 #[derive(Clone, Copy, PartialEq, Eq, Debug)]
 pub enum Message {
     MPayload {

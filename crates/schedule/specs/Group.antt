@@ -17,7 +17,7 @@ slow_quorum f = f + 1
 abbrev pub takeover_quorum : ℕ → ℕ → ℕ
 takeover_quorum r f = r - f
 
--- Controller c enters at most this many changes; its n-th has the number changes-each × (c − 1) + n.
+-- Controller c enters at most this many changes; its n-th has the number changes_each × (c − 1) + n.
 abbrev pub changes_each : ℕ
 changes_each = 32
 

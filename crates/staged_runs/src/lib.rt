@@ -10,7 +10,7 @@ use record::{Decision, Proposals};
 use schedule::{ControllerSet, Figures};
 
 /// What five controllers, two of which may be silent, decide on the replies 6, 7, 11 and 11. The runs that are staged
-/// from this one on stand in `Staged-runs`, single calls in `Staged-calls`.
+/// from this one on stand in `StagedRuns`, single calls in `StagedCalls`.
 pub fn staged_decision() -> Option<Decision>
     ensures value { result ≡ Some (Fast 11) }
     ensures runs { StagedRuns }
