@@ -11,7 +11,7 @@ use schedule::{Change, ControllerSet};
 
 /// What a controller keeps of a change. `promise` is its own promise, 0 for none; `accepted` is the ballot at which it
 /// accepted `timestamp`, 0 for none. A carried-out change has its place and outcome.
-#[derive(Clone, Copy)]
+#[derive(Clone, Copy, PartialEq, Debug)]
 pub struct Row {
     pub phase: Phase,
     pub change: Change,
