@@ -6,9 +6,9 @@ use Rattle.std.specs.Option.{option_map, option_and_then, option_map_or, unwrap_
 use Rattle.schedule.specs.Sets.{member}
 use Rattle.schedule.specs.declared.set.ControllerSet.{ControllerSet}
 use Rattle.ranking.specs.Orders.{accepted_eligible, accepted_before}
-use Rattle.ranking.specs.Ranking.{entry_at, first_in_rank}
+use Rattle.ranking.specs.Ranking.{first_in_rank}
 use Rattle.ranking.specs.declared.accepted.Accepted.{Accepted}
-use Rattle.record.specs.Phases.{phase_number}
+use Rattle.schedule.specs.Phases.{phase_number}
 use Rattle.record.specs.Replies.{numbered, seats, with_reply}
 use Rattle.record.specs.declared.recoveries.Recovery.{Recovery}
 

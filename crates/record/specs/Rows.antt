@@ -4,8 +4,8 @@ use Rattle.schedule.specs.declared.change.Change.{Change}
 use Rattle.schedule.specs.declared.set.ControllerSet.{ControllerSet}
 use Rattle.record.specs.Replies.{no_replies}
 use Rattle.record.specs.declared.acks.Acks.{Acks}
-use Rattle.record.specs.declared.phase.Phase.{Phase}
-use Rattle.record.specs.declared.phase.Phase.TheVariants.{Start}
+use Rattle.schedule.specs.declared.phase.Phase.{Phase}
+use Rattle.schedule.specs.declared.phase.Phase.TheVariants.{Start}
 use Rattle.record.specs.declared.recoveries.Recovery.{Recovery}
 use Rattle.record.specs.declared.replies.Replies.{Replies}
 use Rattle.record.specs.declared.row.Row.{Row}

@@ -11,7 +11,7 @@ use std::array;
 use std::cmp::Reverse;
 
 /// What a controller replied: the timestamp and phase of its row, and the ballot at which it had accepted, 0 for none.
-#[derive(Clone, Copy, PartialEq, Debug)]
+#[derive(Clone, Copy, PartialEq, Eq, Debug)]
 pub struct Recovery {
     pub timestamp: u32,
     pub phase: Phase,
