@@ -61,9 +61,9 @@ impl Replies<Recovery> {
     fn has_late(&self, home: u32, set: &ControllerSet) -> bool
         ensures { result ≡ late_any home set.now.bits self.now.replies }
     {
-        NUMBERS
-            .zip(&self.replies)
-            .any(|(j, reply)| reply.is_some_and(|reply| reply.is_late(j, home, set)))
+        NUMBERS.zip(&self.replies).any(|(j, reply)| reply.is_some_and(|reply| reply.is_late(
+            j, home, set,
+        )))
     }
 
     /// The greatest timestamp of those that replied and count.
