@@ -1,8 +1,10 @@
 -- Single bits: of `or`, of a power of two, and the ones at the low end of a number.
-use Rattle.std.proofs.Common.{◌≡◌, ℕ, zero, suc, ◌+◌, ◌-◌, ◌*◌, ◌/◌, ◌%◌, ◌^◌, ◌<◌, ◌≤◌, ◌||◌, eqb, sym, refl, ap, ◌∙◌, subst, ⊎_elim, pow-suc, one-add, arith}
+use Rattle.std.proofs.Common.{◌≡◌, ℕ, zero, suc, ◌+◌, ◌-◌, ◌*◌, ◌/◌, ◌%◌, ◌^◌, ◌<◌, ◌≤◌, ◌||◌, eqb, sym, refl, ap, ◌∙◌, subst, ⊎_elim, pow-suc, one-add, lit<, w64, arith}
 use native.Mathlib.Nat.{div-eq_of_lt}
 use lib.Bits.{bit_or}
 use lib.Count.{count_trailing_zeros, under}
+use Rattle.std.specs.Int.Count.{trailing_of_zero}
+use Rattle.std.proofs.lemmas.Nat.Bits.{bit_at-trailing_zeros}
 use Rattle.std.proofs.lemmas.Nat.{or_shr, or_mod, shl-shr, shr-shr, pow-add, pow_below}
 use Rattle.std.proofs.lemmas.Bool.{cases_order, eq-eqb, ne_eqb}
 
@@ -73,3 +75,14 @@ low_ones (suc k) w h =
     at : (d : ℕ) → d ≡ 1 - w % 2 → Ones k (w / 2) (count_trailing_zeros k ((2 ^ suc k - 1 - w) / 2)) → Ones (suc k) w (under d (count_trailing_zeros k ((2 ^ suc k - 1 - w) / 2)))
     at zero e r = one_more k w _ (omega arith) r
     at (suc d) e r = no_more k w (omega arith)
+
+-- a word that is not full has a zero above its low ones
+pub some_zero : (w : ℕ) → w < 2 ^ 64 → (w ≡ 18446744073709551615 → ⊥) → count_trailing_zeros 64 (2 ^ 64 - 1 - w) < 64
+some_zero w h other =
+    let below : 2 ^ 64 - 1 - w < 2 ^ 64 = omega arith in
+    let more : 0 < 2 ^ 64 - 1 - w = omega arith in
+    (bit_at-trailing_zeros w64 (2 ^ 64 - 1 - w) more below).0
+
+-- a full word has ones alone
+pub all_ones : Ones 64 18446744073709551615 64
+all_ones = subst (Ones 64 18446744073709551615) (trailing_of_zero 64) (low_ones 64 18446744073709551615 (lit< tt))

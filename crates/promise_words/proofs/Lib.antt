@@ -1,4 +1,5 @@
 pub mod Bits
+pub mod Made
 pub mod Majorities
 pub mod Members
 pub mod Runs

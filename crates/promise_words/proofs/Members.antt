@@ -3,6 +3,7 @@ use Rattle.std.proofs.Common.{◌≡◌, ℕ, zero, suc, ◌+◌, ◌-◌, ◌*�
 use lib.Bits.{bit_or}
 use Rattle.std.proofs.lemmas.Nat.{one_shl}
 use Rattle.std.proofs.lemmas.List.{get_or-set_same, get_or-set_other}
+use Rattle.std.proofs.lemmas.Grind.{same_number_lists}
 use Rattle.std.proofs.lemmas.Bool.{cases_eq, cases_Bool, cond-true, cond-false, ne_eqb}
 use Rattle.std.proofs.lemmas.Bool.Decides.{nat_tests}
 use Rattle.schedule.specs.Group.{timestamp_fits}
@@ -66,23 +67,17 @@ length_joined [] vs = refl
 length_joined (w ∷ ws) [] = refl
 length_joined (w ∷ ws) (v ∷ vs) = ap suc (length_joined ws vs)
 
-pub join_none : (ws : List ℕ) → joined ws [] ≡ ws
-join_none [] = refl
-join_none (w ∷ ws) = refl
-
--- the first i words joined, and one more
-pub join_more : (ws vs : List ℕ) (i : ℕ) → i < length ws → i < length vs → set (joined ws (take i vs)) i (bit_or (get_or (joined ws (take i vs)) i 0) (get_or vs i 0)) ≡ joined ws (take (suc i) vs)
-join_more [] vs i h k = absurd (omega arith)
-join_more (w ∷ ws) [] i h k = absurd (omega arith)
-join_more (w ∷ ws) (v ∷ vs) zero h k = ap (λ (l : List ℕ). bit_or w v ∷ l) (sym (join_none ws))
-join_more (w ∷ ws) (v ∷ vs) (suc i) h k = ap (λ (l : List ℕ). bit_or w v ∷ l) (join_more ws vs i (omega arith) (omega arith))
-
 get_or_joined : (ws vs : List ℕ) (i : ℕ) → length vs ≡ length ws → get_or (joined ws vs) i 0 ≡ bit_or (get_or ws i 0) (get_or vs i 0)
 get_or_joined [] [] i l = refl
 get_or_joined [] (v ∷ vs) i l = absurd (omega arith)
 get_or_joined (w ∷ ws) [] i l = absurd (omega arith)
 get_or_joined (w ∷ ws) (v ∷ vs) zero l = refl
 get_or_joined (w ∷ ws) (v ∷ vs) (suc i) l = get_or_joined ws vs i (omega arith)
+
+-- the list that has at each place what either has there
+pub is_joined : (ws vs us : List ℕ) → length us ≡ length ws → length vs ≡ length ws → ((k : ℕ) → k < length us → get_or us k 0 ≡ bit_or (get_or ws k 0) (get_or vs k 0)) → us ≡ joined ws vs
+is_joined ws vs us h l each =
+    same_number_lists us (joined ws vs) (h ∙ sym (length_joined ws vs)) (λ k below. each k below ∙ sym (get_or_joined ws vs k l))
 
 pub joined_has : (ws vs : List ℕ) (u : ℕ) → length vs ≡ length ws → has (joined ws vs) u ≡ (has ws u || has vs u)
 joined_has ws vs u l =

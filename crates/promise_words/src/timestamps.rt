@@ -6,10 +6,11 @@ ghost use Rattle.promise_words.specs.Runs.{RunTo, unbroken};
 
 use line_format::message::WORDS;
 use schedule::figures::LAST_TIMESTAMP;
+use std::array;
 
 /// A set of timestamps: bit k of word w, both from 0, is timestamp 64w + k + 1.
 /// Bits above the last timestamp mean nothing.
-#[derive(Clone, Copy)]
+#[derive(Clone, Copy, PartialEq, Eq, Debug)]
 pub struct Timestamps {
     pub words: [u64; WORDS],
 }
@@ -63,9 +64,7 @@ impl Timestamps {
         ensures value { self.new.words ≡ joined self.old.words other.now.words }
         ensures members { (u : ℕ) → has self.new.words u ≡ (has self.old.words u || has other.now.words u) }
     {
-        for i in 0..WORDS {
-            self.words[i] |= other.words[i];
-        }
+        self.words = array::from_fn(|i| self.words[i] | other.words[i]);
     }
 
     /// The unbroken run from timestamp 1: how far all are in.
@@ -73,14 +72,9 @@ impl Timestamps {
         ensures value { result ≡ unbroken self.now.words }
         ensures whole { RunTo self.now.words result }
     {
-        let mut run = 0;
-        for word in &self.words {
-            let ones = word.trailing_ones();
-            if ones < 64 {
-                return (run + ones).min(LAST_TIMESTAMP);
-            }
-            run += 64;
+        match self.words.iter().position(|word| *word != u64::MAX) {
+            Some(i) => (64 * i as u32 + self.words[i].trailing_ones()).min(LAST_TIMESTAMP),
+            None => LAST_TIMESTAMP,
         }
-        LAST_TIMESTAMP
     }
 }
