@@ -1,6 +1,7 @@
 -- What is in a set after each change of it.
 use Rattle.std.proofs.Common.{◌≡◌, ℕ, zero, suc, ◌+◌, ◌-◌, ◌*◌, ◌/◌, ◌%◌, ◌^◌, ◌<◌, ◌≤◌, min, max, Bool, true, false, ◌&&◌, ◌||◌, eqb, ltb, leb, List, [], ◌∷◌, length, get_or, take, set, sym, refl, ap, ◌∙◌, ap₂, ⊎_elim, arith}
 use lib.Bits.{bit_or}
+use Rattle.std.proofs.Math.Bool.{or-false}
 use Rattle.std.proofs.lemmas.Nat.{one_shl}
 use Rattle.std.proofs.lemmas.List.{get_or-set_same, get_or-set_other}
 use Rattle.std.proofs.lemmas.Grind.{same_number_lists}
@@ -10,9 +11,9 @@ use Rattle.schedule.specs.Group.{timestamp_fits}
 use Rattle.promise_words.specs.Timestamps.{bit_at, has, among, with_bit, with_one, joined}
 use Rattle.promise_words.proofs.Bits.{or_bit, pow_bit}
 
-or_false : (b : Bool) → (b || false) ≡ b
-or_false true = refl
-or_false false = refl
+
+
+
 
 bit_with : (ws : List ℕ) (p q : ℕ) → p / 64 < length ws → eqb (bit_at (with_bit ws p) q) 1 ≡ (eqb (bit_at ws q) 1 || eqb q p)
 bit_with ws p q h =
@@ -26,7 +27,7 @@ bit_with ws p q h =
     ∙ ap₂ (λ (i : ℕ) (b : Bool). eqb (get_or ws i 0 / 2 ^ (q % 64) % 2) 1 || b) (sym e) (pow_bit (p % 64) (q % 64) ∙ same))
     (λ (n : q / 64 ≡ p / 64 → ⊥).
     ap (λ (x : ℕ). eqb (x / 2 ^ (q % 64) % 2) 1) (get_or-set_other ws (p / 64) (q / 64) (bit_or (get_or ws (p / 64) 0) (2 ^ (p % 64))) 0 n)
-    ∙ sym (ap (λ (b : Bool). eqb (bit_at ws q) 1 || b) (ne_eqb q p (λ (e : q ≡ p). n (ap (λ (x : ℕ). x / 64) e))) ∙ or_false (eqb (bit_at ws q) 1)))
+    ∙ sym (ap (λ (b : Bool). eqb (bit_at ws q) 1 || b) (ne_eqb q p (λ (e : q ≡ p). n (ap (λ (x : ℕ). x / 64) e))) ∙ or-false (eqb (bit_at ws q) 1)))
     (cases_eq (q / 64) (p / 64))
 
 pub one_has : (ws : List ℕ) (t u : ℕ) → length ws ≡ 25 → has (with_one ws t) u ≡ (has ws u || among t t u)

@@ -27,7 +27,7 @@ impl Timestamps {
     pub fn contains(&self, t: u32) -> bool
         ensures { result ≡ has self.now.words t }
     {
-        if t < 1 || t > LAST_TIMESTAMP {
+        if !(1..=LAST_TIMESTAMP).contains(&t) {
             return false;
         }
         let place = t - 1;
@@ -40,7 +40,7 @@ impl Timestamps {
         ensures value { self.new.words ≡ with_one self.old.words t }
         ensures members { (u : ℕ) → has self.new.words u ≡ (has self.old.words u || among t t u) }
     {
-        if t < 1 || t > LAST_TIMESTAMP {
+        if !(1..=LAST_TIMESTAMP).contains(&t) {
             return;
         }
         let place = t - 1;
