@@ -1,7 +1,7 @@
 -- What is in a set after each change of it.
 use Rattle.std.proofs.Common.{◌≡◌, ℕ, zero, suc, ◌+◌, ◌-◌, ◌*◌, ◌/◌, ◌%◌, ◌^◌, ◌<◌, ◌≤◌, min, max, Bool, true, false, ◌&&◌, ◌||◌, eqb, ltb, leb, List, [], ◌∷◌, length, get_or, take, set, sym, refl, ap, ◌∙◌, ap₂, ⊎_elim, arith}
 use lib.Bits.{bit_or}
-use Rattle.std.proofs.Math.Bool.{or-false}
+use Rattle.std.proofs.Math.Bool.{or-false, and-or_distrib_left}
 use Rattle.std.proofs.lemmas.Nat.{one_shl}
 use Rattle.std.proofs.lemmas.List.{get_or-set_same, get_or-set_other}
 use Rattle.std.proofs.lemmas.Grind.{same_number_lists}
@@ -87,8 +87,4 @@ joined_has ws vs u l =
     let
     e : eqb (bit_at (joined ws vs) (u - 1)) 1 ≡ (eqb (bit_at ws (u - 1)) 1 || eqb (bit_at vs (u - 1)) 1)
     = ap (λ (x : ℕ). eqb (x / 2 ^ k % 2) 1) (get_or_joined ws vs i l) ∙ or_bit (get_or ws i 0) (get_or vs i 0) k in
-    ap (λ (b : Bool). timestamp_fits u && b) e ∙ spread (timestamp_fits u) _ _
-  where
-    spread : (a b c : Bool) → (a && (b || c)) ≡ ((a && b) || (a && c))
-    spread true b c = refl
-    spread false b c = refl
+    ap (λ (b : Bool). timestamp_fits u && b) e ∙ and-or_distrib_left (timestamp_fits u) _ _
