@@ -211,8 +211,6 @@ pub fn read(figures: &Figures, bytes: &[u8]) -> Result<Message, LineFault>
     ensures encoded { Encoded bytes.now result }
 {
     let message = shape(bytes)?;
-    match message.unfit(figures) {
-        None => Ok(message),
-        Some(_) => Err(LineFault::OutsideLimits),
-    }
+    message.check(figures)?;
+    Ok(message)
 }

@@ -200,8 +200,6 @@ pub fn write(figures: &Figures, message: &Message, buffer: &mut [u8]) -> Result<
     if !message.count_fits() {
         return Err(LineFault::Malformed);
     }
-    if message.unfit(figures).is_some() {
-        return Err(LineFault::OutsideLimits);
-    }
+    message.check(figures)?;
     Ok(lay(message, buffer))
 }
