@@ -1,5 +1,6 @@
 -- The limits of every field, in a group of r controllers of which f may be silent.
 use Rattle.std.specs.Prelude.{ℕ, ◌-◌, ◌*◌, ◌^◌, Bool, true, cond, not, ◌&&◌, List, [], ◌∷◌, ◌++◌, take, drop, is_some, Some, None, Option, ◌==◌, nat_le, nat_lt, slice_index}
+use Rattle.std.specs.List.{list_all}
 use Rattle.schedule.specs.Changes.{department_fits, kind_fits, hour_fits, slot_fits, value_fits}
 use Rattle.schedule.specs.Group.{id_fits, timestamp_fits, ballot_fits, last_timestamp, last_ballot, home}
 use Rattle.schedule.specs.Sets.{fast_set}
@@ -47,8 +48,7 @@ pairs_rise r last (p ∷ ps) = pair_fits r last p && pairs_rise r p.id ps
 
 -- places that are not used hold zeros
 abbrev pub unused : List Pair → Bool
-unused [] = true
-unused (p ∷ ps) = p.id == 0 && p.timestamp == 0 && unused ps
+unused ps = list_all (λ p. p.id == 0 && p.timestamp == 0) ps
 
 abbrev pub pairs_fit : ℕ → Promises → Bool
 pairs_fit r p = nat_le p.count most_pairs && pairs_rise r 0 (take p.count p.pairs) && unused (drop p.count p.pairs)

@@ -132,12 +132,7 @@ fn pairs_rise(figures: &Figures, pairs: &[Pair]) -> bool
 fn unused(pairs: &[Pair]) -> bool
     ensures { result ≡ unused pairs.now }
 {
-    for pair in pairs {
-        if pair.id != 0 || pair.timestamp != 0 {
-            return false;
-        }
-    }
-    true
+    pairs.iter().all(|pair| *pair == Pair::default())
 }
 
 fn pairs_fit(figures: &Figures, promises: &Promises) -> bool
