@@ -190,7 +190,10 @@ impl Message {
     {
         match self {
             Message::MPayload {
-                id, change, set, ..
+                id,
+                change,
+                set,
+                ..
             } => check_entry(figures, *id, change, set),
             Message::MPropose {
                 id,
@@ -206,7 +209,9 @@ impl Message {
                 check_timestamp(*timestamp)
             }
             Message::MConsensus {
-                timestamp, ballot, ..
+                timestamp,
+                ballot,
+                ..
             } => {
                 check_timestamp(*timestamp)?;
                 check_ballot(*ballot)
