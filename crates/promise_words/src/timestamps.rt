@@ -17,6 +17,7 @@ pub struct Timestamps {
 
 impl Timestamps {
     /// No timestamps.
+    #[tactic(auto, unfolding(crate::specs::Timestamps::no_words))]
     pub fn none() -> Timestamps
         ensures { result.words ≡ no_words }
     {

@@ -1,7 +1,7 @@
 use Rattle.std.proofs.Common.{◌≡◌, ℕ, List, get_or, ap, ◌∙◌, rules, arith}
 use lib.Bits.{bit_or}
 use Rattle.promise_words.specs.Timestamps.{has, joined}
-use Rattle.promise_words.proofs.Made.{made_from}
+use Rattle.line_format.proofs.Made.{made_from}
 use Rattle.promise_words.proofs.Members.{is_joined, joined_has}
 use Rattle.promise_words.proofs.timestamps.Timestamps.join.Goals as goal
 
