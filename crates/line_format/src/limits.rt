@@ -9,7 +9,7 @@ ghost use Rattle.line_format.specs.Limits.{check, sender_check, id_check, timest
 use crate::message::{Message, PAIRS, Pair, Promises, WORDS};
 use schedule::change::{HOURS, LAST_VALUE, SLOTS};
 use schedule::figures::{LAST_BALLOT, LAST_TIMESTAMP};
-use schedule::{Change, ControllerSet, Department, Figures, Kind};
+use schedule::{Change, ControllerSet, Department, Figures, Kind, Phase};
 
 /// The fields of messages, as they are named to people.
 #[derive(Clone, Copy, PartialEq, Eq, Debug)]
@@ -77,19 +77,20 @@ fn check_takeover(figures: &Figures, ballot: u32) -> Result<(), Field>
 fn department_fits(department: u32) -> bool
     ensures { result ≡ department_fits department }
 {
-    Department::of(department).is_some()
+    Department::try_from(department).is_ok()
 }
 
 fn kind_fits(kind: u32) -> bool
     ensures { result ≡ kind_fits kind }
 {
-    Kind::of(kind).is_some()
+    Kind::try_from(kind).is_ok()
 }
 
+/// The phase of a change that is known and not committed.
 fn phase_fits(phase: u32) -> bool
     ensures { result ≡ phase_fits phase }
 {
-    phase >= 1 && phase <= 4
+    Phase::try_from(phase).is_ok_and(|phase| phase.is_pending())
 }
 
 fn set_fits(figures: &Figures, id: u32, set: &ControllerSet) -> bool
