@@ -2,7 +2,6 @@
 use Rattle.std.proofs.Common.{◌≡◌, ℕ, zero, suc, ◌+◌, ◌-◌, ◌*◌, ◌/◌, ◌%◌, ◌^◌, ◌<◌, ◌≤◌, min, max, Bool, true, false, ◌&&◌, ◌||◌, eqb, ltb, leb, List, [], ◌∷◌, length, get_or, take, set, sym, refl, ap, ◌∙◌, ap₂, ⊎_elim, arith}
 use lib.Bits.{bit_or}
 use Rattle.std.proofs.Math.Bool.{or-false, and-or_distrib_left}
-use Rattle.std.proofs.lemmas.Nat.{one_shl}
 use Rattle.std.proofs.lemmas.List.{get_or-set_same, get_or-set_other}
 use Rattle.std.proofs.lemmas.Grind.{same_number_lists}
 use Rattle.std.proofs.lemmas.Bool.{cases_eq, cases_Bool, cond-true, cond-false, ne_eqb}
@@ -41,14 +40,6 @@ one_has ws t u l =
     ap (λ (vs : List ℕ). has vs u) (cond-true (timestamp_fits t) (with_bit ws (t - 1)) ws e) ∙ ap (λ (b : Bool). timestamp_fits u && b) b ∙ grind (arith, nat_tests))
     (λ (e : timestamp_fits t ≡ false). ap (λ (vs : List ℕ). has vs u) (cond-false (timestamp_fits t) (with_bit ws (t - 1)) ws e) ∙ grind (arith, nat_tests))
     (cases_Bool (timestamp_fits t))
-
--- what the code writes
-pub written : (ws : List ℕ) (t : ℕ) → 1 ≤ t → t ≤ 1568 → set ws ((t - 1) / 64) (bit_or (get_or ws ((t - 1) / 64) 0) (1 * 2 ^ ((t - 1) % 64) % 2 ^ 64)) ≡ with_one ws t
-written ws t l h =
-    let i : ℕ = (t - 1) / 64 in
-    let fits : timestamp_fits t ≡ true = grind (arith, nat_tests) in
-    ap (λ (x : ℕ). set ws i (bit_or (get_or ws i 0) x)) (one_shl ((t - 1) % 64) 64 (omega arith))
-    ∙ sym (cond-true (timestamp_fits t) (with_bit ws (t - 1)) ws fits)
 
 -- from first up to the one before t
 abbrev pub before : ℕ → ℕ → ℕ → Bool
