@@ -1,5 +1,5 @@
 -- What is in a set after each change of it.
-use Rattle.std.proofs.Common.{◌≡◌, ℕ, zero, suc, ◌+◌, ◌-◌, ◌*◌, ◌/◌, ◌%◌, ◌^◌, ◌<◌, ◌≤◌, min, max, Bool, true, false, ◌&&◌, ◌||◌, eqb, ltb, leb, List, [], ◌∷◌, length, get_or, take, set, sym, refl, ap, ◌∙◌, ap₂, ⊎_elim, arith}
+use Rattle.std.proofs.Common.{◌≡◌, ℕ, zero, suc, ◌+◌, ◌-◌, ◌/◌, ◌%◌, ◌^◌, ◌<◌, ◌≤◌, min, max, Bool, true, false, ◌&&◌, ◌||◌, eqb, ltb, leb, List, [], ◌∷◌, length, get_or, sym, refl, ap, ◌∙◌, ap₂, ⊎_elim, arith}
 use lib.Bits.{bit_or}
 use Rattle.std.proofs.Math.Bool.{or-false, and-or_distrib_left}
 use Rattle.std.proofs.lemmas.List.{get_or-set_same, get_or-set_other}
@@ -9,10 +9,6 @@ use Rattle.std.proofs.lemmas.Bool.Decides.{nat_tests}
 use Rattle.schedule.specs.Group.{timestamp_fits}
 use Rattle.promise_words.specs.Timestamps.{bit_at, has, among, with_bit, with_one, joined}
 use Rattle.promise_words.proofs.Bits.{or_bit, pow_bit}
-
-
-
-
 
 bit_with : (ws : List ℕ) (p q : ℕ) → p / 64 < length ws → eqb (bit_at (with_bit ws p) q) 1 ≡ (eqb (bit_at ws q) 1 || eqb q p)
 bit_with ws p q h =
