@@ -1,37 +1,29 @@
 //! The change that is due, and its record once it is carried out.
 
 ghost use Rattle.std.specs.Prelude.{◌≡◌};
-ghost use Rattle.tables.specs.Tables.{due_entry, due_from, due, is_carried, carried_count, finished};
+ghost use Rattle.tables.specs.Tables.{due_at, due_from, due, is_carried, carried_count, finished};
 
 use crate::rows::Rows;
 use line_format::message::PAIRS;
 use ranking::{Due, first_in_rank};
 use record::{Phase, Row};
+use std::array;
 
-/// A record as an entry of the search for the change that is due.
-fn due_entry(row: &Row, id: u32, stable: u32) -> Due
-    ensures { result ≡ due_entry stable id row.now }
+/// The record at a place as an entry of the search for the change that is due, if it is committed and not above `stable`.
+fn due_at(rows: &[Row; PAIRS], place: usize, stable: u32) -> Option<Due>
+    ensures { result ≡ due_at stable rows.now place }
 {
-    Due {
-        eligible: row.phase == Phase::Commit && row.timestamp <= stable,
-        timestamp: row.timestamp,
-        id,
-    }
+    let row = rows.get(place)?;
+    let timestamp = row.timestamp;
+    let id = place as u32 + 1;
+    (row.phase == Phase::Commit && timestamp <= stable).then_some(Due { timestamp, id })
 }
 
 /// The records as entries of the search.
-fn due_entries(rows: &[Row; PAIRS], stable: u32) -> [Due; PAIRS]
+fn due_entries(rows: &[Row; PAIRS], stable: u32) -> [Option<Due>; PAIRS]
     ensures { result ≡ due_from stable 1 rows.now }
 {
-    let mut entries = [Due {
-        eligible: false,
-        timestamp: 0,
-        id: 0,
-    }; PAIRS];
-    for (i, row) in rows.iter().enumerate() {
-        entries[i] = due_entry(row, i as u32 + 1, stable);
-    }
-    entries
+    array::from_fn(|place| due_at(rows, place, stable))
 }
 
 /// Whether the change of a record was carried out.
@@ -39,19 +31,6 @@ fn was_carried(row: &Row) -> bool
     ensures { result ≡ is_carried row.now }
 {
     row.phase == Phase::CarriedOut
-}
-
-/// How many of these were carried out.
-fn carried(rows: &[Row; PAIRS]) -> u32
-    ensures { result ≡ carried_count rows.now }
-{
-    let mut n = 0;
-    for row in rows {
-        if was_carried(row) {
-            n += 1;
-        }
-    }
-    n
 }
 
 impl Rows {
@@ -67,7 +46,7 @@ impl Rows {
     pub fn carried(&self) -> u32
         ensures { result ≡ carried_count self.now.rows }
     {
-        carried(&self.rows)
+        self.rows.iter().filter(|row| was_carried(row)).count() as u32
     }
 }
 
