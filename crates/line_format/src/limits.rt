@@ -119,14 +119,12 @@ fn pair_fits(figures: &Figures, last: u32, pair: &Pair) -> bool
 fn pairs_rise(figures: &Figures, pairs: &[Pair]) -> bool
     ensures { result ≡ pairs_rise figures.now.r 0 pairs.now }
 {
-    let mut last = 0;
-    for pair in pairs {
-        if !pair_fits(figures, last, pair) {
-            return false;
-        }
-        last = pair.id;
-    }
-    true
+    pairs
+        .iter()
+        .try_fold(0, |last, pair| {
+            pair_fits(figures, last, pair).then_some(pair.id)
+        })
+        .is_some()
 }
 
 /// Places that are not used hold zeros.
