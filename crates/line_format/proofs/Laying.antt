@@ -1,9 +1,9 @@
 -- Bytes laid into a buffer, one part after the other, and a field more.
-use Rattle.std.proofs.Common.{◌≡◌, ℕ, ◌+◌, ◌*◌, ◌<◌, ◌≤◌, List, [], ◌∷◌, ◌++◌, length, get_or, take, drop, sym, refl, ap, ◌∙◌, append_assoc, append-nil, add-zero, add_assoc, mul-zero, mul-suc, arith, length-append}
+use Rattle.std.proofs.Common.{◌≡◌, ℕ, ◌+◌, ◌*◌, ◌<◌, ◌≤◌, List, [], ◌∷◌, ◌++◌, length, get_or, take, drop, sym, ap, ◌∙◌, append_assoc, append-nil, add_assoc, mul-zero, mul-suc, arith, length-append}
 use Rattle.std.proofs.lemmas.Grind.{flat_map-append}
-use Rattle.std.proofs.lemmas.List.{take-append-drop, take_at, take_more, drop_at, drop-drop, length-take-le}
+use Rattle.std.proofs.lemmas.List.{take_at, take_more, drop_at, drop-drop, length-take-le}
 use Rattle.line_format.specs.Fields.{fields}
-use Rattle.line_format.specs.Writing.{Puts, laid_at, laid_over}
+use Rattle.line_format.specs.Writing.{Puts, laid_at}
 use Rattle.line_format.specs.declared.writing.Writer.{Writer}
 
 pub laid_next : (at : ℕ) (xs ys buffer : List ℕ) → at ≤ length buffer → laid_at (at + length xs) ys (laid_at at xs buffer) ≡ laid_at at (xs ++ ys) buffer

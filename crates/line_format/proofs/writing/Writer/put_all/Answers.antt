@@ -1,4 +1,4 @@
-use Rattle.std.proofs.Common.{◌≡◌, length, sym, ap, get_or, subst, arith}
+use Rattle.std.proofs.Common.{length, ap, arith}
 use Rattle.std.proofs.lemmas.List.Folds.{length-flat_map-take}
 use Rattle.line_format.proofs.Laying.{puts_then, fields_more}
 use Rattle.line_format.proofs.writing.Writer.put_all.Goals as goal
