@@ -4,5 +4,6 @@ pub mod Made
 pub mod Numbers
 pub mod OneEncoding
 pub mod ReadsBack
+pub mod Rising
 pub mod Rows
 pub mod Tables

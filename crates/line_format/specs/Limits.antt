@@ -82,6 +82,14 @@ abbrev pub entry_checks : ℕ → ℕ → ℕ → Change → ℕ → List Check
 entry_checks r f i c set =
     check Department (department_fits c.department) ∷ check Kind (kind_fits c.kind) ∷ check Hour (hour_fits c.hour) ∷ check Slot (slot_fits c.slot) ∷ check Value (value_fits c.value) ∷ check Set (set_fits r f i set) ∷ []
 
+-- what MRecAck answers of a change
+abbrev pub answer_checks : ℕ → ℕ → ℕ → ℕ → List Check
+answer_checks t p a b =
+    timestamp_check t ∷ check Phase (phase_fits p) ∷ check Accepted (accepted_fits a) ∷ ballot_check b ∷ []
+
+abbrev pub promises_checks : ℕ → Promises → List Check
+promises_checks r p = check Detached (detached_fits p.detached) ∷ check Pairs (pairs_fit r p) ∷ []
+
 -- who sends a message, and the change that it is about
 abbrev pub first_checks : ℕ → Message → List Check
 first_checks r (MPayload s i c set) = sender_check r s ∷ id_check r i ∷ []
@@ -103,9 +111,8 @@ rest_checks r f (MCommit s i t) = timestamp_check t ∷ []
 rest_checks r f (MConsensus s i t b) = timestamp_check t ∷ ballot_check b ∷ []
 rest_checks r f (MConsensusAck s i b) = ballot_check b ∷ []
 rest_checks r f (MRec s i b) = takeover_check r b ∷ []
-rest_checks r f (MRecAck s i t p a b) =
-    timestamp_check t ∷ check Phase (phase_fits p) ∷ check Accepted (accepted_fits a) ∷ ballot_check b ∷ []
-rest_checks r f (MPromises s p) = check Detached (detached_fits p.detached) ∷ check Pairs (pairs_fit r p) ∷ []
+rest_checks r f (MRecAck s i t p a b) = answer_checks t p a b
+rest_checks r f (MPromises s p) = promises_checks r p
 
 -- the checks of each message, in the order of its bytes
 abbrev pub checks : ℕ → ℕ → Message → List Check

@@ -4,7 +4,7 @@ ghost use Rattle.std.specs.Prelude.{◌≡◌, [], ◌∷◌};
 ghost use Rattle.std.specs.Result.{result_err};
 ghost use Rattle.schedule.specs.Changes.{department_fits, kind_fits};
 ghost use Rattle.schedule.specs.Group.{timestamp_fits};
-ghost use Rattle.line_format.specs.Limits.{check, sender_check, id_check, timestamp_check, ballot_check, takeover_check, entry_checks, first_checks, rest_checks, phase_fits, set_fits, detached_fits, pair_fits, pairs_rise, unused, pairs_fit, first_unfit, unfit};
+ghost use Rattle.line_format.specs.Limits.{check, sender_check, id_check, timestamp_check, ballot_check, takeover_check, entry_checks, answer_checks, promises_checks, first_checks, rest_checks, phase_fits, set_fits, detached_fits, pair_fits, pairs_rise, unused, pairs_fit, first_unfit, unfit};
 
 use crate::message::{Message, PAIRS, Pair, Promises, WORDS};
 use schedule::change::{HOURS, LAST_VALUE, SLOTS};
@@ -119,14 +119,12 @@ fn pair_fits(figures: &Figures, last: u32, pair: &Pair) -> bool
 fn pairs_rise(figures: &Figures, pairs: &[Pair]) -> bool
     ensures { result ≡ pairs_rise figures.now.r 0 pairs.now }
 {
-    let mut last = 0;
-    for pair in pairs {
-        if !pair_fits(figures, last, pair) {
-            return false;
-        }
-        last = pair.id;
-    }
-    true
+    pairs
+        .iter()
+        .try_fold(0, |last, pair| {
+            pair_fits(figures, last, pair).then_some(pair.id)
+        })
+        .is_some()
 }
 
 /// Places that are not used hold zeros.
@@ -162,6 +160,23 @@ fn check_entry(
     within(change.slot < SLOTS, Field::Slot)?;
     within(change.value <= LAST_VALUE, Field::Value)?;
     within(set_fits(figures, id, set), Field::Set)
+}
+
+/// What MRecAck answers of a change.
+fn check_answer(timestamp: u32, phase: u32, accepted: u32, ballot: u32) -> Result<(), Field>
+    ensures { result_err result ≡ first_unfit (answer_checks timestamp phase accepted ballot) }
+{
+    check_timestamp(timestamp)?;
+    within(phase_fits(phase), Field::Phase)?;
+    within(accepted <= LAST_BALLOT, Field::Accepted)?;
+    check_ballot(ballot)
+}
+
+fn check_promises(figures: &Figures, promises: &Promises) -> Result<(), Field>
+    ensures { result_err result ≡ first_unfit (promises_checks figures.now.r promises.now) }
+{
+    within(detached_fits(&promises.detached), Field::Detached)?;
+    within(pairs_fit(figures, promises), Field::Pairs)
 }
 
 impl Message {
@@ -225,16 +240,8 @@ impl Message {
                 accepted,
                 ballot,
                 ..
-            } => {
-                check_timestamp(*timestamp)?;
-                within(phase_fits(*phase), Field::Phase)?;
-                within(*accepted <= LAST_BALLOT, Field::Accepted)?;
-                check_ballot(*ballot)
-            }
-            Message::MPromises { promises, .. } => {
-                within(detached_fits(&promises.detached), Field::Detached)?;
-                within(pairs_fit(figures, promises), Field::Pairs)
-            }
+            } => check_answer(*timestamp, *phase, *accepted, *ballot),
+            Message::MPromises { promises, .. } => check_promises(figures, promises),
         }
     }
 

@@ -13,6 +13,7 @@ use schedule::{Change, ControllerSet, Figures};
 use std::array;
 
 /// The unsigned int at a place.
+// kept: the bound stands at each reader of a place; `first_chunk` would answer an Option, unwrapped by the same bound.
 fn int_at(bytes: &[u8], at: usize) -> u32
     requires { at + 4 ≤ length bytes.now }
     ensures { result ≡ int_at bytes.now at }
@@ -121,6 +122,7 @@ fn promises_shape(bytes: &[u8]) -> Result<Message, LineFault>
 }
 
 /// The message of a type and length, whatever its numbers.
+// kept: one arm of one value for each of the nine messages; the numbers are the types of the format.
 pub fn shape(bytes: &[u8]) -> Result<Message, LineFault>
     ensures { result ≡ shape bytes.now }
 {

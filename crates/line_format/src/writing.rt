@@ -54,6 +54,7 @@ impl Writer<'_> {
     }
 
     /// Puts a message, for which there is room.
+    // kept: one arm of one call for each of the nine messages.
     fn put_message(&mut self, message: &Message)
         requires { (count_fits message.now ≡ true) × HasRoom self.old 2004 }
         ensures { Puts self.old self.new (encode message.now) }
@@ -140,6 +141,7 @@ trait Put {
         ensures { Puts writer.old writer.new (Self.Put.code self.now) };
 }
 
+// kept: `to_be_bytes` is a method of each type and of no trait, so the two bodies stay one line each.
 impl Put for u32 {
     ghost code = { int_bytes };
 

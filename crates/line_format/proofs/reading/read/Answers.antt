@@ -1,7 +1,4 @@
-use Rattle.std.proofs.Common.{◌≡◌, Ok, Result, rules}
-use Rattle.line_format.specs.Reading.{reading}
-use Rattle.line_format.specs.declared.fault.LineFault.{LineFault}
-use Rattle.line_format.specs.declared.message.Message.{Message}
+use Rattle.std.proofs.Common.{rules}
 use Rattle.line_format.proofs.OneEncoding.{one_encoding}
 use Rattle.line_format.proofs.reading.read.Goals as goal
 
