@@ -1,6 +1,5 @@
 -- The steps: what a message, an entry and a take-over do to the record of a change and to the clock, at controller
 -- `own` of a group of r, of which f may be silent.
-use Prim.{tt}
 use Rattle.std.specs.Prelude.{◌≡◌, ℕ, ◌+◌, Bool, true, cond, not, ◌&&◌, Some, None, Ok, Err, Option, Result, ◌==◌, nat_le, nat_lt}
 use Rattle.schedule.specs.Group.{slow_quorum, takeover_quorum}
 use Rattle.schedule.specs.Sets.{size, member}
@@ -42,15 +41,6 @@ Settled (Ok done) row clock answer row_after clock_after =
     (answer ≡ Ok done.answer) × (row_after ≡ done.row) × (clock_after ≡ done.clock)
 Settled (Err why) row clock answer row_after clock_after = (answer ≡ Err why) × (row_after ≡ row) × (clock_after ≡ clock)
 
--- the same, where nothing is refused
-abbrev pub Done : {A : Type 0} → Left A → A → Row → Clock → Type 0
-Done done answer row_after clock_after = (answer ≡ done.answer) × (row_after ≡ done.row) × (clock_after ≡ done.clock)
-
--- the same, where the clock refuses
-abbrev pub Joined : Result (Row × Clock) ClockFault → Row → Clock → Result (Unit {0}) ClockFault → Row → Clock → Type 0
-Joined (Ok done) row clock answer row_after clock_after = (answer ≡ Ok tt) × (row_after ≡ done.0) × (clock_after ≡ done.1)
-Joined (Err fault) row clock answer row_after clock_after = (answer ≡ Err fault) × (row_after ≡ row) × (clock_after ≡ clock)
-
 abbrev pub in_phase? : ℕ → Row → Bool
 in_phase? n w = phase_number w.phase == n
 
@@ -86,6 +76,11 @@ with_ack c w = with_replies w.proposals (record { from = record { bits = with_me
 -- a reply to a take-over is noted
 abbrev pub with_heard : ℕ → Recovery → Row → Row
 with_heard c x w = with_replies w.proposals w.acks (record { replies = with_recovery w.recoveries.replies c x }) w
+
+-- a change and its fast set become known, and a timestamp is promised on its proposal
+abbrev pub offered : Change → ControllerSet → Row → Result (ℕ × Clock) ClockFault → Result (Left ℕ) ClockFault
+offered c set w (Ok p) = Ok (left (promised Propose p.0 (with_change c set w)) p.1 p.0)
+offered c set w (Err fault) = Err fault
 
 -- MPropose at ballot 0: the timestamp proposed is the reply
 abbrev pub proposed : ℕ → ℕ → ℕ → Change → ControllerSet → Row → Result (ℕ × Clock) ClockFault → Result (Left (Option Sent)) Refusal
