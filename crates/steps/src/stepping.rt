@@ -4,7 +4,7 @@ ghost use Rattle.std.specs.Prelude.{◌≡◌, Some};
 ghost use Rattle.promise_words.specs.Clocks.{proposal};
 ghost use Rattle.record.specs.Replies.{decision};
 ghost use Rattle.steps.specs.Steps.{Settled, with_proposal, decided, gathered, with_ack, backed, joining, rejoined, with_heard, chosen, followed, told_commit, proposed, counts_proposal, counts_ack, counts_recovery, step};
-ghost use Rattle.steps.specs.Turns.{Gives, Tries};
+ghost use Rattle.steps.specs.Turns.{Gives, Tries, handed_out};
 
 use crate::turn::Turn;
 use line_format::Message;
@@ -24,18 +24,18 @@ impl Turn<'_> {
         change: &Change,
         set: &ControllerSet,
         least: u32,
-    ) -> Result<Option<Sent>, Refusal>
-        ensures { Tries (proposed self.old.site.now.own home id change.now set.now self.old.row.now (proposal least self.old.clock.now)) self.old result self.new }
+    ) -> Result<Sent, Refusal>
+        ensures { Tries (proposed self.old.site.now.own home id change.now set.now self.old.row.now (proposal least self.old.clock.now)) self.old (handed_out result) self.new }
     {
         let timestamp = self.propose(change, set, least)?;
-        Ok(Some(Sent::to_one(
+        Ok(Sent::to_one(
             home,
             Message::MProposeAck {
                 sender: self.site.own,
                 id,
                 timestamp,
             },
-        )))
+        ))
     }
 
     /// Whether a reply to the proposal counts.
@@ -136,11 +136,11 @@ impl Turn<'_> {
     }
 
     /// Joins a ballot, and tells its owner what was promised or accepted before.
-    fn reply(&mut self, id: u32, leader: u32, ballot: u32) -> Result<Option<Sent>, Refusal>
-        ensures { Tries (rejoined self.old.site.now.own leader id ballot (joining ballot self.old.row.now self.old.clock.now)) self.old result self.new }
+    fn reply(&mut self, id: u32, leader: u32, ballot: u32) -> Result<Sent, Refusal>
+        ensures { Tries (rejoined self.old.site.now.own leader id ballot (joining ballot self.old.row.now self.old.clock.now)) self.old (handed_out result) self.new }
     {
         self.join(ballot)?;
-        Ok(Some(Sent::to_one(
+        Ok(Sent::to_one(
             leader,
             Message::MRecAck {
                 sender: self.site.own,
@@ -150,7 +150,7 @@ impl Turn<'_> {
                 accepted: self.row.accepted,
                 ballot,
             },
-        )))
+        ))
     }
 
     /// Whether a reply to the take-over counts.
@@ -213,7 +213,9 @@ pub fn step(
                 timestamp,
             },
             Phase::Start,
-        ) if set.contains(site.own) => turn.answer(*sender, *id, change, set, *timestamp),
+        ) if set.contains(site.own) => {
+            Ok(Some(turn.answer(*sender, *id, change, set, *timestamp)?))
+        }
         (
             Message::MProposeAck {
                 sender,
@@ -248,7 +250,7 @@ pub fn step(
             Ok(turn.support(*id, *sender))
         }
         (Message::MRec { sender, id, ballot }, _) if pending && turn.row.ballot < *ballot => {
-            turn.reply(*id, *sender, *ballot)
+            Ok(Some(turn.reply(*id, *sender, *ballot)?))
         }
         (
             Message::MRecAck {
