@@ -64,20 +64,24 @@ impl Turn<'_> {
         match row.proposals.decision(&self.site.figures, &row.set)? {
             Decision::Fast { timestamp } => {
                 self.commit(timestamp);
-                Some(self.site.to_others(Message::MCommit {
-                    sender,
-                    id,
-                    timestamp,
-                }))
+                Some(
+                    self.site.to_others(Message::MCommit {
+                        sender,
+                        id,
+                        timestamp,
+                    }),
+                )
             }
             Decision::Slow { timestamp } => {
                 self.lead(timestamp, sender);
-                Some(self.site.to_others(Message::MConsensus {
-                    sender,
-                    id,
-                    timestamp,
-                    ballot: sender,
-                }))
+                Some(
+                    self.site.to_others(Message::MConsensus {
+                        sender,
+                        id,
+                        timestamp,
+                        ballot: sender,
+                    }),
+                )
             }
         }
     }
@@ -114,11 +118,13 @@ impl Turn<'_> {
         }
         let timestamp = self.row.timestamp;
         self.commit(timestamp);
-        Some(self.site.to_others(Message::MCommit {
-            sender: self.site.own,
-            id,
-            timestamp,
-        }))
+        Some(
+            self.site.to_others(Message::MCommit {
+                sender: self.site.own,
+                id,
+                timestamp,
+            }),
+        )
     }
 
     /// The commit of a settled change, for one that still asks.
@@ -174,12 +180,14 @@ impl Turn<'_> {
         let row = &*self.row;
         let timestamp = row.recoveries.choice(self.site.home(id), &row.set);
         self.lead(timestamp, ballot);
-        Some(self.site.to_others(Message::MConsensus {
-            sender: self.site.own,
-            id,
-            timestamp,
-            ballot,
-        }))
+        Some(
+            self.site.to_others(Message::MConsensus {
+                sender: self.site.own,
+                id,
+                timestamp,
+                ballot,
+            }),
+        )
     }
 }
 

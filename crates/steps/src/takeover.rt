@@ -16,9 +16,7 @@ pub fn take_over(site: &Site, row: &mut Row, clock: &mut Clock) -> Result<u32, R
     if !row.phase.is_pending() {
         return Err(Refusal::OutOfStep);
     }
-    let ballot = site
-        .next_ballot(row.ballot)
-        .ok_or(Refusal::BallotsSpent)?;
+    let ballot = site.next_ballot(row.ballot).ok_or(Refusal::BallotsSpent)?;
     let mut turn = Turn { site, row, clock };
     turn.join(ballot)?;
     let own = Recovery {
