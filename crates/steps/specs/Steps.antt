@@ -92,12 +92,19 @@ proposed own s id c set w (Err fault) = Err (TimestampsSpent fault)
 abbrev pub followed : ℕ → ℕ → ℕ → ℕ → ℕ → Row → Clock → Left (Option Sent)
 followed own s id t b w clock = left (accepted t b w) (bumped t clock) (Some (to_one s (MConsensusAck own id b)))
 
+-- t is committed, and the others are told
+abbrev pub settling : ℕ → ℕ → ℕ → ℕ → Row → Clock → Left (Option Sent)
+settling r own id t w clock = left (committed t w) (bumped t clock) (Some (to_others r own (MCommit own id t)))
+
+-- t is accepted here at ballot b, and the others are asked to
+abbrev pub asking : ℕ → ℕ → ℕ → ℕ → ℕ → Row → Clock → Left (Option Sent)
+asking r own id t b w clock = left (leading own t b w) (bumped t clock) (Some (to_others r own (MConsensus own id t b)))
+
 -- after a reply to the proposal: commit at once, have it accepted, or wait for the others
 abbrev pub decided : ℕ → ℕ → ℕ → Row → Clock → Option Decision → Left (Option Sent)
 decided r own id w clock None = left w clock None
-decided r own id w clock (Some (Fast t)) = left (committed t w) (bumped t clock) (Some (to_others r own (MCommit own id t)))
-decided r own id w clock (Some (Slow t)) =
-    left (leading own t own w) (bumped t clock) (Some (to_others r own (MConsensus own id t own)))
+decided r own id w clock (Some (Fast t)) = settling r own id t w clock
+decided r own id w clock (Some (Slow t)) = asking r own id t own w clock
 
 unfoldable pub gathered : ℕ → ℕ → ℕ → ℕ → Row → Clock → Left (Option Sent)
 gathered r f own id w clock = decided r own id w clock (decision f w.set.bits w.proposals.timestamps)
@@ -105,9 +112,7 @@ gathered r f own id w clock = decided r own id w clock (decision f w.set.bits w.
 -- after an acceptance: with f + 1 of them the timestamp is committed
 abbrev pub backed : ℕ → ℕ → ℕ → ℕ → Row → Clock → Left (Option Sent)
 backed r f own id w clock =
-    cond (nat_le (slow_quorum f) (size w.acks.from.bits))
-    (left (committed w.timestamp w) (bumped w.timestamp clock) (Some (to_others r own (MCommit own id w.timestamp))))
-    (left w clock None)
+    cond (nat_le (slow_quorum f) (size w.acks.from.bits)) (settling r own id w.timestamp w clock) (left w clock None)
 
 -- a ballot is joined
 abbrev pub at_ballot : ℕ → Row → Row
@@ -134,9 +139,8 @@ rejoined own s id b (Err fault) = Err (TimestampsSpent fault)
 -- after a reply to the take-over: with r − f of them the choice is accepted here
 abbrev pub chosen : ℕ → ℕ → ℕ → ℕ → ℕ → Row → Clock → Left (Option Sent)
 chosen r f own id b w clock =
-    let t : ℕ = choice (home_or_none r id) w.set.bits w.recoveries.replies in
     cond (nat_le (takeover_quorum r f) (heard w.recoveries.replies))
-    (left (leading own t b w) (bumped t clock) (Some (to_others r own (MConsensus own id t b))))
+    (asking r own id (choice (home_or_none r id) w.set.bits w.recoveries.replies) b w clock)
     (left w clock None)
 
 -- MRecAck: the reply is noted, under the phase that its number stands for

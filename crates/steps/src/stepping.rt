@@ -3,19 +3,47 @@
 ghost use Rattle.std.specs.Prelude.{◌≡◌, Some};
 ghost use Rattle.promise_words.specs.Clocks.{proposal};
 ghost use Rattle.record.specs.Replies.{decision};
-ghost use Rattle.steps.specs.Steps.{Settled, with_proposal, decided, gathered, with_ack, backed, joining, rejoined, with_heard, chosen, followed, told_commit, proposed, counts_proposal, counts_ack, counts_recovery, step};
+ghost use Rattle.steps.specs.Steps.{Settled, with_proposal, settling, asking, decided, gathered, with_ack, backed, joining, rejoined, with_heard, chosen, followed, told_commit, proposed, counts_proposal, counts_ack, counts_recovery, step};
 ghost use Rattle.steps.specs.Turns.{Gives, Tries, handed_out};
 
 use crate::turn::Turn;
 use line_format::Message;
 use promise_words::{Clock, ClockFault};
-use record::{Decision, Phase, Recovery, Row};
+use record::{Acks, Decision, Phase, Recovery, Row};
 use schedule::{Change, ControllerSet};
 use sites::refusal::Refusal;
-use sites::sent::Sent;
+use sites::sent::{Sent, just};
 use sites::site::Site;
 
 impl Turn<'_> {
+    /// Commits a timestamp, and tells the others.
+    fn settle(&mut self, id: u32, timestamp: u32) -> Sent
+        ensures { Gives (settling self.old.site.now.figures.r self.old.site.now.own id timestamp self.old.row.now self.old.clock.now) self.old (Some result) self.new }
+    {
+        self.commit(timestamp);
+        self.site.to_others(Message::MCommit {
+            sender: self.site.own,
+            id,
+            timestamp,
+        })
+    }
+
+    /// Accepts a timestamp at a ballot that belongs here, and asks the others to.
+    fn lead(&mut self, id: u32, timestamp: u32, ballot: u32) -> Sent
+        ensures { Gives (asking self.old.site.now.figures.r self.old.site.now.own id timestamp ballot self.old.row.now self.old.clock.now) self.old (Some result) self.new }
+    {
+        self.accept(timestamp, ballot);
+        self.row.acks = Acks {
+            from: just(self.site.own),
+        };
+        self.site.to_others(Message::MConsensus {
+            sender: self.site.own,
+            id,
+            timestamp,
+            ballot,
+        })
+    }
+
     /// Promises a timestamp on the home's proposal, and replies with it.
     fn answer(
         &mut self,
@@ -59,30 +87,10 @@ impl Turn<'_> {
     fn decide(&mut self, id: u32) -> Option<Sent>
         ensures { Gives (decided self.old.site.now.figures.r self.old.site.now.own id self.old.row.now self.old.clock.now (decision self.old.site.now.figures.f self.old.row.now.set.bits self.old.row.now.proposals.timestamps)) self.old result self.new }
     {
-        let sender = self.site.own;
         let row = &*self.row;
         match row.proposals.decision(&self.site.figures, &row.set)? {
-            Decision::Fast { timestamp } => {
-                self.commit(timestamp);
-                Some(
-                    self.site.to_others(Message::MCommit {
-                        sender,
-                        id,
-                        timestamp,
-                    }),
-                )
-            }
-            Decision::Slow { timestamp } => {
-                self.lead(timestamp, sender);
-                Some(
-                    self.site.to_others(Message::MConsensus {
-                        sender,
-                        id,
-                        timestamp,
-                        ballot: sender,
-                    }),
-                )
-            }
+            Decision::Fast { timestamp } => Some(self.settle(id, timestamp)),
+            Decision::Slow { timestamp } => Some(self.lead(id, timestamp, self.site.own)),
         }
     }
 
@@ -116,15 +124,7 @@ impl Turn<'_> {
         if self.row.acks.count() < self.site.figures.slow_quorum() {
             return None;
         }
-        let timestamp = self.row.timestamp;
-        self.commit(timestamp);
-        Some(
-            self.site.to_others(Message::MCommit {
-                sender: self.site.own,
-                id,
-                timestamp,
-            }),
-        )
+        Some(self.settle(id, self.row.timestamp))
     }
 
     /// The commit of a settled change, for one that still asks.
@@ -179,15 +179,7 @@ impl Turn<'_> {
         }
         let row = &*self.row;
         let timestamp = row.recoveries.choice(self.site.home(id), &row.set);
-        self.lead(timestamp, ballot);
-        Some(
-            self.site.to_others(Message::MConsensus {
-                sender: self.site.own,
-                id,
-                timestamp,
-                ballot,
-            }),
-        )
+        Some(self.lead(id, timestamp, ballot))
     }
 }
 

@@ -2,13 +2,12 @@
 
 ghost use Rattle.std.specs.Prelude.{◌≡◌};
 ghost use Rattle.promise_words.specs.Clocks.{bumped, proposal};
-ghost use Rattle.steps.specs.Steps.{known, committed, promised, accepted, leading, joining, offered};
+ghost use Rattle.steps.specs.Steps.{known, committed, promised, accepted, joining, offered};
 ghost use Rattle.steps.specs.Turns.{Holds, Joins, Tries};
 
 use promise_words::{Clock, ClockFault};
-use record::{Acks, Phase, Row};
+use record::{Phase, Row};
 use schedule::{Change, ControllerSet};
-use sites::sent::just;
 use sites::site::Site;
 
 /// The record of a change and the clock, at a site.
@@ -70,16 +69,6 @@ impl Turn<'_> {
         self.row.ballot = ballot;
         self.row.accepted = ballot;
         self.clock.bump(t);
-    }
-
-    /// Accepts a timestamp at a ballot that belongs here.
-    pub(crate) fn lead(&mut self, t: u32, ballot: u32)
-        ensures { Holds (leading self.old.site.now.own t ballot self.old.row.now) (bumped t self.old.clock.now) self.old self.new }
-    {
-        self.accept(t, ballot);
-        self.row.acks = Acks {
-            from: just(self.site.own),
-        };
     }
 
     /// Joins a ballot.
