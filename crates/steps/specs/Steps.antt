@@ -1,5 +1,6 @@
 -- The steps: what a message, an entry and a take-over do to the record of a change and to the clock, at controller
 -- `own` of a group of r, of which f may be silent.
+use Prim.{tt}
 use Rattle.std.specs.Prelude.{◌≡◌, ℕ, ◌+◌, Bool, true, cond, not, ◌&&◌, Some, None, Ok, Err, Option, Result, ◌==◌, nat_le, nat_lt}
 use Rattle.schedule.specs.Group.{slow_quorum, takeover_quorum}
 use Rattle.schedule.specs.Sets.{size, member}
@@ -77,16 +78,18 @@ with_ack c w = with_replies w.proposals (record { from = record { bits = with_me
 abbrev pub with_heard : ℕ → Recovery → Row → Row
 with_heard c x w = with_replies w.proposals w.acks (record { replies = with_recovery w.recoveries.replies c x }) w
 
--- a change and its fast set become known, and a timestamp is promised on its proposal
-abbrev pub offered : Change → ControllerSet → Row → Result (ℕ × Clock) ClockFault → Result (Left ℕ) ClockFault
-offered c set w (Ok p) = Ok (left (promised Propose p.0 (with_change c set w)) p.1 p.0)
-offered c set w (Err fault) = Err fault
+-- a change and its fast set become known, and the next timestamp not below t is promised
+abbrev pub promising : Change → ControllerSet → Row → Result (ℕ × Clock) ClockFault → Result (Left ℕ) ClockFault
+promising c set w (Ok p) = Ok (left (promised Propose p.0 (with_change c set w)) p.1 p.0)
+promising c set w (Err fault) = Err fault
 
--- MPropose at ballot 0: the timestamp proposed is the reply
-abbrev pub proposed : ℕ → ℕ → ℕ → Change → ControllerSet → Row → Result (ℕ × Clock) ClockFault → Result (Left (Option Sent)) Refusal
-proposed own s id c set w (Ok p) =
-    Ok (left (promised Propose p.0 (with_change c set w)) p.1 (Some (to_one s (MProposeAck own id p.0))))
-proposed own s id c set w (Err fault) = Err (TimestampsSpent fault)
+abbrev pub offered : Change → ControllerSet → ℕ → Row → Clock → Result (Left ℕ) ClockFault
+offered c set t w clock = promising c set w (proposal t clock)
+
+-- MPropose at ballot 0: the timestamp promised is the reply
+abbrev pub proposed : ℕ → ℕ → ℕ → Result (Left ℕ) ClockFault → Result (Left (Option Sent)) Refusal
+proposed own s id (Ok done) = Ok (left done.row done.clock (Some (to_one s (MProposeAck own id done.answer))))
+proposed own s id (Err fault) = Err (TimestampsSpent fault)
 
 -- MConsensus: t is accepted at ballot b, and its owner is told
 abbrev pub followed : ℕ → ℕ → ℕ → ℕ → ℕ → Row → Clock → Left (Option Sent)
@@ -119,21 +122,22 @@ abbrev pub at_ballot : ℕ → Row → Row
 at_ballot b w = at_ballots b w.accepted w
 
 -- phase payload takes a promise of its own
-abbrev pub recovering : ℕ → Row → Result (ℕ × Clock) ClockFault → Result (Row × Clock) ClockFault
-recovering b w (Ok p) = Ok (at_ballot b (promised RecoverR p.0 w), p.1)
+abbrev pub recovering : ℕ → Row → Result (ℕ × Clock) ClockFault → Result (Left (Unit {0})) ClockFault
+recovering b w (Ok p) = Ok (left (at_ballot b (promised RecoverR p.0 w)) p.1 tt)
 recovering b w (Err fault) = Err fault
 
 -- Joining ballot b. From ballot 0, phase payload becomes recover-r with a promise, and phase propose becomes recover-p.
-abbrev pub joining : ℕ → Row → Clock → Result (Row × Clock) ClockFault
+abbrev pub joining : ℕ → Row → Clock → Result (Left (Unit {0})) ClockFault
 joining b w clock =
     cond (w.ballot == 0 && in_phase? 1 w) (recovering b w (proposal 0 clock))
-    (cond (w.ballot == 0 && in_phase? 2 w) (Ok (at_ballot b (in_phase RecoverP w), clock))
-    (Ok (at_ballot b w, clock)))
+    (cond (w.ballot == 0 && in_phase? 2 w) (Ok (left (at_ballot b (in_phase RecoverP w)) clock tt))
+    (Ok (left (at_ballot b w) clock tt)))
 
 -- MRec: whoever joins tells its timestamp, its phase and the ballot at which it had accepted
-abbrev pub rejoined : ℕ → ℕ → ℕ → ℕ → Result (Row × Clock) ClockFault → Result (Left (Option Sent)) Refusal
-rejoined own s id b (Ok p) =
-    Ok (left p.0 p.1 (Some (to_one s (MRecAck own id p.0.timestamp (phase_number p.0.phase) p.0.accepted b))))
+abbrev pub rejoined : ℕ → ℕ → ℕ → ℕ → Result (Left (Unit {0})) ClockFault → Result (Left (Option Sent)) Refusal
+rejoined own s id b (Ok done) =
+    let w : Row = done.row in
+    Ok (left w done.clock (Some (to_one s (MRecAck own id w.timestamp (phase_number w.phase) w.accepted b))))
 rejoined own s id b (Err fault) = Err (TimestampsSpent fault)
 
 -- after a reply to the take-over: with r − f of them the choice is accepted here
@@ -172,7 +176,7 @@ step r f own (MPayload s id c set) w clock =
     cond (in_phase? 0 w && not (member set.bits own)) (Ok (left (known c set w) clock None)) (Err OutOfStep)
 step r f own (MPropose s id c set t) w clock =
     cond (in_phase? 0 w && member set.bits own)
-    (cond (w.ballot == 0) (proposed own s id c set w (proposal t clock)) (Ok (left (known c set w) clock None)))
+    (cond (w.ballot == 0) (proposed own s id (offered c set t w clock)) (Ok (left (known c set w) clock None)))
     (Err OutOfStep)
 step r f own (MProposeAck s id t) w clock =
     cond (in_phase? 2 w && w.ballot == 0 && counts_proposal r own id s w)
@@ -197,20 +201,21 @@ step r f own (MRecAck s id t p a b) w clock =
 step r f own (MPromises s p) w clock = Err OutOfStep
 
 -- Enter: phase propose with the next timestamp, and the own reply noted.
-abbrev pub begun : ℕ → Change → ControllerSet → Row → Result (ℕ × Clock) ClockFault → Result (Left ℕ) Refusal
-begun own c set w (Ok p) = Ok (left (with_proposal own p.0 (promised Propose p.0 (with_change c set w))) p.1 p.0)
-begun own c set w (Err fault) = Err (TimestampsSpent fault)
+abbrev pub begun : ℕ → Result (Left ℕ) ClockFault → Result (Left ℕ) Refusal
+begun own (Ok done) = Ok (left (with_proposal own done.answer done.row) done.clock done.answer)
+begun own (Err fault) = Err (TimestampsSpent fault)
 
 abbrev pub entering : ℕ → Change → ControllerSet → Row → Clock → Result (Left ℕ) Refusal
-entering own c set w clock = begun own c set w (proposal (clock.time + 1) clock)
+entering own c set w clock = begun own (offered c set (clock.time + 1) w clock)
 
 -- Take over: the next ballot that belongs here is joined, earlier replies are dropped, and the own reply is the first.
 abbrev pub own_reply : Row → Recovery
 own_reply w = record { given = true; timestamp = w.timestamp; phase = w.phase; accepted = w.accepted }
 
-abbrev pub taken : ℕ → ℕ → Result (Row × Clock) ClockFault → Result (Left ℕ) Refusal
-taken own b (Ok p) =
-    Ok (left (with_replies no_proposals no_acks (record { replies = with_recovery no_recoveries own (own_reply p.0) }) p.0) p.1 b)
+abbrev pub taken : ℕ → ℕ → Result (Left (Unit {0})) ClockFault → Result (Left ℕ) Refusal
+taken own b (Ok done) =
+    let w : Row = done.row in
+    Ok (left (with_replies no_proposals no_acks (record { replies = with_recovery no_recoveries own (own_reply w) }) w) done.clock b)
 taken own b (Err fault) = Err (TimestampsSpent fault)
 
 abbrev pub taken_at : ℕ → Row → Clock → Option ℕ → Result (Left ℕ) Refusal

@@ -1,8 +1,6 @@
 -- What a call on a turn leaves behind its references, before and after it.
-use Prim.{tt}
 use Rattle.std.specs.Prelude.{◌≡◌, Some, Ok, Err, Option, Result}
 use Rattle.promise_words.specs.declared.clock.Clock.{Clock}
-use Rattle.promise_words.specs.declared.clock.ClockFault.{ClockFault}
 use Rattle.record.specs.declared.row.Row.{Row}
 use Rattle.sites.specs.declared.refusal.Refusal.{Refusal}
 use Rattle.sites.specs.declared.sent.Sent.{Sent}
@@ -26,11 +24,6 @@ Gives done before answer after = (answer ≡ done.answer) × Holds done.row done
 abbrev pub Tries : {A E : Type 0} → Result (Left A) E → Turn → Result A E → Turn → Type 0
 Tries (Ok done) before answer after = (answer ≡ Ok done.answer) × Holds done.row done.clock before after
 Tries (Err why) before answer after = (answer ≡ Err why) × Holds before.row.now before.clock.now before after
-
--- the same, with no answer
-abbrev pub Joins : Result (Row × Clock) ClockFault → Turn → Result (Unit {0}) ClockFault → Turn → Type 0
-Joins (Ok done) before answer after = (answer ≡ Ok tt) × Holds done.0 done.1 before after
-Joins (Err fault) before answer after = (answer ≡ Err fault) × Holds before.row.now before.clock.now before after
 
 -- a message that is handed out wherever nothing is refused
 abbrev pub handed_out : Result Sent Refusal → Result (Option Sent) Refusal

@@ -1,9 +1,8 @@
 //! The step on one record: by its phase and the message together.
 
 ghost use Rattle.std.specs.Prelude.{◌≡◌, Some};
-ghost use Rattle.promise_words.specs.Clocks.{proposal};
 ghost use Rattle.record.specs.Replies.{decision};
-ghost use Rattle.steps.specs.Steps.{Settled, with_proposal, settling, asking, decided, gathered, with_ack, backed, joining, rejoined, with_heard, chosen, followed, told_commit, proposed, counts_proposal, counts_ack, counts_recovery, step};
+ghost use Rattle.steps.specs.Steps.{Settled, with_proposal, settling, asking, decided, gathered, with_ack, backed, joining, rejoined, with_heard, chosen, followed, told_commit, offered, proposed, counts_proposal, counts_ack, counts_recovery, step};
 ghost use Rattle.steps.specs.Turns.{Gives, Tries, handed_out};
 
 use crate::turn::Turn;
@@ -53,7 +52,7 @@ impl Turn<'_> {
         set: &ControllerSet,
         least: u32,
     ) -> Result<Sent, Refusal>
-        ensures { Tries (proposed self.old.site.now.own home id change.now set.now self.old.row.now (proposal least self.old.clock.now)) self.old (handed_out result) self.new }
+        ensures { Tries (proposed self.old.site.now.own home id (offered change.now set.now least self.old.row.now self.old.clock.now)) self.old (handed_out result) self.new }
     {
         let timestamp = self.propose(change, set, least)?;
         Ok(Sent::to_one(

@@ -1,9 +1,9 @@
 //! What a message, an entry or a take-over alters: the record of a change and the clock, at a site.
 
 ghost use Rattle.std.specs.Prelude.{◌≡◌};
-ghost use Rattle.promise_words.specs.Clocks.{bumped, proposal};
+ghost use Rattle.promise_words.specs.Clocks.{bumped};
 ghost use Rattle.steps.specs.Steps.{known, committed, promised, accepted, joining, offered};
-ghost use Rattle.steps.specs.Turns.{Holds, Joins, Tries};
+ghost use Rattle.steps.specs.Turns.{Holds, Tries};
 
 use promise_words::{Clock, ClockFault};
 use record::{Phase, Row};
@@ -35,7 +35,7 @@ impl Turn<'_> {
         set: &ControllerSet,
         least: u32,
     ) -> Result<u32, ClockFault>
-        ensures { Tries (offered change.now set.now self.old.row.now (proposal least self.old.clock.now)) self.old result self.new }
+        ensures { Tries (offered change.now set.now least self.old.row.now self.old.clock.now) self.old result self.new }
     {
         let t = self.clock.propose(least)?;
         self.keep(change, set);
@@ -73,7 +73,7 @@ impl Turn<'_> {
 
     /// Joins a ballot.
     pub(crate) fn join(&mut self, ballot: u32) -> Result<(), ClockFault>
-        ensures { Joins (joining ballot self.old.row.now self.old.clock.now) self.old result self.new }
+        ensures { Tries (joining ballot self.old.row.now self.old.clock.now) self.old result self.new }
     {
         match self.row.phase {
             Phase::Payload if self.row.ballot == 0 => {
