@@ -2,7 +2,8 @@
 use Rattle.std.proofs.Common.{◌≡◌, ℕ, ◌+◌, ◌*◌, ◌<◌, ◌≤◌, List, [], ◌∷◌, ◌++◌, length, get_or, take, drop, sym, refl, ap, ◌∙◌, append_assoc, append-nil, add-zero, add_assoc, mul-zero, mul-suc, arith, length-append}
 use Rattle.std.proofs.lemmas.List.{take-append-drop, take_at, take_more, drop_at, drop-drop, length-take-le}
 use Rattle.line_format.specs.Fields.{fields}
-use Rattle.line_format.specs.Writing.{laid_at, laid_over}
+use Rattle.line_format.specs.Writing.{Puts, laid_at, laid_over}
+use Rattle.line_format.specs.declared.writing.Writer.{Writer}
 
 pub laid_none : (at : ℕ) (buffer : List ℕ) → buffer ≡ laid_at at [] buffer
 laid_none at buffer = rw add-zero (sym (take-append-drop at buffer))
@@ -25,10 +26,16 @@ laid_next at xs ys buffer h =
     = drop-drop (length ys) (at + length xs) buffer ∙ ap (λ k. drop k buffer) (add_assoc at (length xs) (length ys) ∙ ap (λ k. at + k) (sym (length-append xs ys))) in
     rw (before, after, last) (simp append_assoc)
 
--- a second part after a first: where the second ends, and what the buffer then holds
-pub laid_then : (at mid end : ℕ) (xs ys b₀ b₁ b₂ : List ℕ) → at ≤ length b₀ → mid ≡ at + length xs → b₁ ≡ laid_at at xs b₀ → end ≡ mid + length ys → b₂ ≡ laid_at mid ys b₁ → (end ≡ at + length (xs ++ ys)) × (b₂ ≡ laid_at at (xs ++ ys) b₀)
-laid_then at mid end xs ys b₀ b₁ b₂ h m e₁ n e₂ =
-    let joined = laid_next at xs ys b₀ h in (simp length-append (omega arith), cc)
+-- a second part after a first
+pub puts_then : (before mid after : Writer) (xs ys : List ℕ) → before.at ≤ length before.buffer.now → Puts before mid xs → Puts mid after ys → Puts before after (xs ++ ys)
+puts_then before mid after xs ys h p q =
+    let joined = laid_next before.at xs ys before.buffer.now h in
+    record {
+      same_buffer = q.same_buffer ∙ p.same_buffer;
+      same_length = q.same_length ∙ p.same_length;
+      place = simp length-append (omega arith);
+      laid = q.laid ∙ rw (p.place, p.laid) joined;
+    }
 
 module _ {A : Type 0} (code : A → List ℕ) where
   pub fields_append : (xs ys : List A) → fields code (xs ++ ys) ≡ fields code xs ++ fields code ys

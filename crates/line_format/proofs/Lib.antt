@@ -1,5 +1,6 @@
 pub mod Checks
 pub mod Laying
+pub mod Made
 pub mod Numbers
 pub mod OneEncoding
 pub mod ReadsBack

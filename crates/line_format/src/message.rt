@@ -8,7 +8,7 @@ pub const WORDS: usize = 25;
 pub const PAIRS: usize = 224;
 
 /// A controller's own promise for one change.
-#[derive(Clone, Copy, PartialEq, Eq, Debug)]
+#[derive(Clone, Copy, Default, PartialEq, Eq, Debug)]
 pub struct Pair {
     pub id: u32,
     pub timestamp: u32,

@@ -1,7 +1,9 @@
 -- How many sets hold 1 to s, and the greatest s that enough of them hold.
-use Rattle.std.proofs.Common.{◌≡◌, ℕ, suc, ◌+◌, ◌<◌, ◌≤◌, max, Bool, cond, leb, ◌⊎◌, List, [], ◌∷◌, length, get_or, take, drop, sym, refl, ap, ◌∙◌, subst, inl, inr, ⊎_elim, arith}
-use Rattle.std.proofs.lemmas.List.{at_drop_more, length-take-le}
-use Rattle.std.proofs.lemmas.List.Sums.{sum_by-cons, sum_by_more}
+use Rattle.std.proofs.Common.{◌≡◌, ℕ, suc, ◌+◌, ◌<◌, ◌≤◌, max, Bool, true, false, cond, leb, ◌⊎◌, List, [], ◌∷◌, length, take, map, filter, fold, count_by, sym, refl, ap, ◌∙◌, subst, inl, inr, ⊎_elim, arith}
+use Rattle.std.specs.List.{reduce}
+use Rattle.std.specs.Option.{unwrap_or}
+use Rattle.std.proofs.lemmas.List.{length-take-le}
+use Rattle.std.proofs.lemmas.List.Sums.{sum_by-cons}
 use Rattle.std.proofs.lemmas.Bool.{cases_lt, cond_both, leb-true, leb-false}
 use Rattle.std.proofs.lemmas.Bool.Decides.{nat_tests}
 use Rattle.schedule.specs.Group.{majority}
@@ -13,17 +15,14 @@ use Rattle.promise_words.proofs.Runs.{all_in_run, run_of}
 abbrev run : Timestamps → ℕ
 run k = unbroken k.words
 
-pub counts : (a b : ℕ) → a ≤ b → ◌≡◌ {A = ℕ} (cond (leb a b) 1 0) 1
+pub holders_by_run : (s : ℕ) (sets : List Timestamps) → holders s sets ≡ count_by (λ k. leb s (run k)) sets
+holders_by_run s sets = ap (λ (p : Timestamps → Bool). count_by p sets) (λ i k. all_in_run k.words (run k) s (run_of k.words) i)
+
+counts : (a b : ℕ) → a ≤ b → ◌≡◌ {A = ℕ} (cond (leb a b) 1 0) 1
 counts a b l = grind (arith, nat_tests)
 
-pub counts_not : (a b : ℕ) → b < a → ◌≡◌ {A = ℕ} (cond (leb a b) 1 0) 0
+counts_not : (a b : ℕ) → b < a → ◌≡◌ {A = ℕ} (cond (leb a b) 1 0) 0
 counts_not a b l = grind (arith, nat_tests)
-
--- a loop's step
-pub holders_more : (sets : List Timestamps) (i s n : ℕ) (d : Timestamps) → i < length sets → RunTo (get_or sets i d).words n → holders s (take (i + 1) sets) ≡ holders s (take i sets) + cond (leb s n) 1 0
-holders_more sets i s n d l r =
-    sum_by_more (λ k. cond (all_in k.words s) 1 0) sets i d l
-    ∙ ap (λ (b : Bool). holders s (take i sets) + cond b 1 0) (all_in_run (get_or sets i d).words n s r)
 
 holders_cons : (s : ℕ) (k : Timestamps) (ks : List Timestamps) → holders s (k ∷ ks) ≡ cond (leb s (run k)) 1 0 + holders s ks
 holders_cons s k ks =
@@ -124,18 +123,27 @@ stable_at r known l h =
           (least_above u group);
     }
 
--- a loop's step: what a set adds to the greatest run
-pub greatest_more : (m : ℕ) (group : List Timestamps) (i n : ℕ) (d : Timestamps) → i < length group → n ≡ unbroken (get_or group i d).words
-    → greatest_run m group (drop i group) ≡ cond (leb m (holders n group)) (max n (greatest_run m group (drop (i + 1) group))) (greatest_run m group (drop (i + 1) group))
-greatest_more m group i n d l e =
-    let rest : ℕ = greatest_run m group (drop (i + 1) group) in
-    at_drop_more (greatest_run m group) group i d l ∙ ap (λ (x : ℕ). cond (leb m (holders x group)) (max x rest) rest) (sym e)
+fold_max : (a : ℕ) (ns : List ℕ) → fold max a ns ≡ max a (fold max 0 ns)
+fold_max a [] = omega arith
+fold_max a (n ∷ ns) = omega (arith, fold_max (max a n) ns, fold_max (max 0 n) ns)
 
-pub takes : (m h n rest best : ℕ) → best < n → m ≤ h → max n rest ≡ max best (cond (leb m h) (max n rest) rest)
-takes m h n rest best l k = grind (arith, nat_tests)
+max_or_zero : (ns : List ℕ) → unwrap_or (reduce max ns) 0 ≡ fold max 0 ns
+max_or_zero [] = refl
+max_or_zero (n ∷ ns) = let e : n ≡ max 0 n = omega arith in ap (λ (a : ℕ). fold max a ns) e
 
-pub leaves_few : (m h n rest best : ℕ) → h < m → max best rest ≡ max best (cond (leb m h) (max n rest) rest)
-leaves_few m h n rest best l = grind (arith, nat_tests)
+abbrev pub enough : ℕ → List Timestamps → ℕ → Bool
+enough m group n = leb m (holders n group)
 
-pub leaves_low : (m h n rest best : ℕ) → n ≤ best → max best rest ≡ max best (cond (leb m h) (max n rest) rest)
-leaves_low m h n rest best l = grind (arith, nat_tests)
+folded : (m : ℕ) (group ks : List Timestamps) → fold max 0 (filter (enough m group) (map run ks)) ≡ greatest_run m group ks
+folded m group [] = refl
+folded m group (k ∷ ks) = at (enough m group (run k)) (folded m group ks)
+  where
+    at :
+        (b : Bool) → fold max 0 (filter (enough m group) (map run ks)) ≡ greatest_run m group ks →
+        fold max 0 (cond b (run k ∷ filter (enough m group) (map run ks)) (filter (enough m group) (map run ks))) ≡ cond b (max (run k) (greatest_run m group ks)) (greatest_run m group ks)
+    at true e = omega (arith, fold_max (max 0 (run k)) (filter (enough m group) (map run ks)), e)
+    at false e = e
+
+-- the greatest run, as the code finds it
+pub greatest_is : (m : ℕ) (group : List Timestamps) → unwrap_or (reduce max (filter (enough m group) (map run group))) 0 ≡ greatest_run m group group
+greatest_is m group = max_or_zero (filter (enough m group) (map run group)) ∙ folded m group group

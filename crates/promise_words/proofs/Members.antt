@@ -1,17 +1,19 @@
 -- What is in a set after each change of it.
 use Rattle.std.proofs.Common.{◌≡◌, ℕ, zero, suc, ◌+◌, ◌-◌, ◌*◌, ◌/◌, ◌%◌, ◌^◌, ◌<◌, ◌≤◌, min, max, Bool, true, false, ◌&&◌, ◌||◌, eqb, ltb, leb, List, [], ◌∷◌, length, get_or, take, set, sym, refl, ap, ◌∙◌, ap₂, ⊎_elim, arith}
 use lib.Bits.{bit_or}
+use Rattle.std.proofs.Math.Bool.{or-false, and-or_distrib_left}
 use Rattle.std.proofs.lemmas.Nat.{one_shl}
 use Rattle.std.proofs.lemmas.List.{get_or-set_same, get_or-set_other}
+use Rattle.std.proofs.lemmas.Grind.{same_number_lists}
 use Rattle.std.proofs.lemmas.Bool.{cases_eq, cases_Bool, cond-true, cond-false, ne_eqb}
 use Rattle.std.proofs.lemmas.Bool.Decides.{nat_tests}
 use Rattle.schedule.specs.Group.{timestamp_fits}
 use Rattle.promise_words.specs.Timestamps.{bit_at, has, among, with_bit, with_one, joined}
 use Rattle.promise_words.proofs.Bits.{or_bit, pow_bit}
 
-or_false : (b : Bool) → (b || false) ≡ b
-or_false true = refl
-or_false false = refl
+
+
+
 
 bit_with : (ws : List ℕ) (p q : ℕ) → p / 64 < length ws → eqb (bit_at (with_bit ws p) q) 1 ≡ (eqb (bit_at ws q) 1 || eqb q p)
 bit_with ws p q h =
@@ -25,7 +27,7 @@ bit_with ws p q h =
     ∙ ap₂ (λ (i : ℕ) (b : Bool). eqb (get_or ws i 0 / 2 ^ (q % 64) % 2) 1 || b) (sym e) (pow_bit (p % 64) (q % 64) ∙ same))
     (λ (n : q / 64 ≡ p / 64 → ⊥).
     ap (λ (x : ℕ). eqb (x / 2 ^ (q % 64) % 2) 1) (get_or-set_other ws (p / 64) (q / 64) (bit_or (get_or ws (p / 64) 0) (2 ^ (p % 64))) 0 n)
-    ∙ sym (ap (λ (b : Bool). eqb (bit_at ws q) 1 || b) (ne_eqb q p (λ (e : q ≡ p). n (ap (λ (x : ℕ). x / 64) e))) ∙ or_false (eqb (bit_at ws q) 1)))
+    ∙ sym (ap (λ (b : Bool). eqb (bit_at ws q) 1 || b) (ne_eqb q p (λ (e : q ≡ p). n (ap (λ (x : ℕ). x / 64) e))) ∙ or-false (eqb (bit_at ws q) 1)))
     (cases_eq (q / 64) (p / 64))
 
 pub one_has : (ws : List ℕ) (t u : ℕ) → length ws ≡ 25 → has (with_one ws t) u ≡ (has ws u || among t t u)
@@ -66,23 +68,17 @@ length_joined [] vs = refl
 length_joined (w ∷ ws) [] = refl
 length_joined (w ∷ ws) (v ∷ vs) = ap suc (length_joined ws vs)
 
-pub join_none : (ws : List ℕ) → joined ws [] ≡ ws
-join_none [] = refl
-join_none (w ∷ ws) = refl
-
--- the first i words joined, and one more
-pub join_more : (ws vs : List ℕ) (i : ℕ) → i < length ws → i < length vs → set (joined ws (take i vs)) i (bit_or (get_or (joined ws (take i vs)) i 0) (get_or vs i 0)) ≡ joined ws (take (suc i) vs)
-join_more [] vs i h k = absurd (omega arith)
-join_more (w ∷ ws) [] i h k = absurd (omega arith)
-join_more (w ∷ ws) (v ∷ vs) zero h k = ap (λ (l : List ℕ). bit_or w v ∷ l) (sym (join_none ws))
-join_more (w ∷ ws) (v ∷ vs) (suc i) h k = ap (λ (l : List ℕ). bit_or w v ∷ l) (join_more ws vs i (omega arith) (omega arith))
-
 get_or_joined : (ws vs : List ℕ) (i : ℕ) → length vs ≡ length ws → get_or (joined ws vs) i 0 ≡ bit_or (get_or ws i 0) (get_or vs i 0)
 get_or_joined [] [] i l = refl
 get_or_joined [] (v ∷ vs) i l = absurd (omega arith)
 get_or_joined (w ∷ ws) [] i l = absurd (omega arith)
 get_or_joined (w ∷ ws) (v ∷ vs) zero l = refl
 get_or_joined (w ∷ ws) (v ∷ vs) (suc i) l = get_or_joined ws vs i (omega arith)
+
+-- the list that has at each place what either has there
+pub is_joined : (ws vs us : List ℕ) → length us ≡ length ws → length vs ≡ length ws → ((k : ℕ) → k < length us → get_or us k 0 ≡ bit_or (get_or ws k 0) (get_or vs k 0)) → us ≡ joined ws vs
+is_joined ws vs us h l each =
+    same_number_lists us (joined ws vs) (h ∙ sym (length_joined ws vs)) (λ k below. each k below ∙ sym (get_or_joined ws vs k l))
 
 pub joined_has : (ws vs : List ℕ) (u : ℕ) → length vs ≡ length ws → has (joined ws vs) u ≡ (has ws u || has vs u)
 joined_has ws vs u l =
@@ -91,8 +87,4 @@ joined_has ws vs u l =
     let
     e : eqb (bit_at (joined ws vs) (u - 1)) 1 ≡ (eqb (bit_at ws (u - 1)) 1 || eqb (bit_at vs (u - 1)) 1)
     = ap (λ (x : ℕ). eqb (x / 2 ^ k % 2) 1) (get_or_joined ws vs i l) ∙ or_bit (get_or ws i 0) (get_or vs i 0) k in
-    ap (λ (b : Bool). timestamp_fits u && b) e ∙ spread (timestamp_fits u) _ _
-  where
-    spread : (a b c : Bool) → (a && (b || c)) ≡ ((a && b) || (a && c))
-    spread true b c = refl
-    spread false b c = refl
+    ap (λ (b : Bool). timestamp_fits u && b) e ∙ and-or_distrib_left (timestamp_fits u) _ _

@@ -1,11 +1,12 @@
 -- The unbroken run: there is one, and only one; and the run that bits make.
-use Rattle.std.proofs.Common.{◌≡◌, ℕ, zero, suc, ◌+◌, ◌-◌, ◌*◌, ◌/◌, ◌%◌, ◌^◌, ◌<◌, ◌≤◌, min, Bool, true, false, ◌&&◌, eqb, leb, List, get_or, sym, refl, ap, ◌∙◌, subst, ap₂, ⊎_elim, arith}
+use Rattle.std.proofs.Common.{◌≡◌, ℕ, zero, suc, ◌+◌, ◌-◌, ◌*◌, ◌/◌, ◌%◌, ◌^◌, ◌<◌, ◌≤◌, min, Bool, true, false, ◌&&◌, eqb, leb, List, get_or, sym, refl, ap, ◌∙◌, subst, ap₂, ⊎_elim, w64, arith}
 use Rattle.std.proofs.lemmas.Bool.{cases_lt, cases_eq, cases_Bool, and_parts, and_from, both_ways, le-leb, lt-leb, cond_both}
 use Rattle.std.proofs.lemmas.Bool.Decides.{nat_tests}
+use Rattle.std.proofs.lemmas.Nat.Bits.{bit_at_ones, bit_at-trailing_ones}
+use Rattle.std.specs.Int.{trailing_ones}
 use Rattle.schedule.specs.Group.{timestamp_fits}
 use Rattle.promise_words.specs.Timestamps.{bit_at, has}
 use Rattle.promise_words.specs.Runs.{all_in, RunTo, run_past, unbroken}
-use Rattle.promise_words.proofs.Bits.{Ones}
 
 all_has : (ws : List ℕ) (s t : ℕ) → all_in ws s ≡ true → t < s → has ws (suc t) ≡ true
 all_has ws zero t e l = absurd (omega arith)
@@ -81,14 +82,22 @@ at_place ws i j p l e =
     let b : p % 64 ≡ j = omega arith in
     ap₂ (λ (x y : ℕ). get_or ws x 0 / 2 ^ y % 2) a b
 
--- the ones of one word more
-pub ones_on : (ws : List ℕ) (i n : ℕ) → ((p : ℕ) → p < 64 * i → bit_at ws p ≡ 1) → Ones 64 (get_or ws i 0) n → (p : ℕ) → p < 64 * i + n → bit_at ws p ≡ 1
-ones_on ws i n bits word p l =
-    ⊎_elim (λ (b : p < 64 * i). bits p b)
-    (λ (b : 64 * i ≤ p). at_place ws i (p - 64 * i) p (omega (arith, word.most)) (omega arith) ∙ word.ones (p - 64 * i) (omega arith))
-    (cases_lt p (64 * i))
+full_bits : (ws : List ℕ) (i : ℕ) → ((k : ℕ) → k < i → get_or ws k 0 ≡ 2 ^ 64 - 1) → (p : ℕ) → p < 64 * i → bit_at ws p ≡ 1
+full_bits ws i full p l = ap (λ (w : ℕ). w / 2 ^ (p % 64) % 2) (full (p / 64) (omega arith)) ∙ bit_at_ones 64 (p % 64) (omega arith)
 
--- the word in which the run ends
-pub run_ends : (ws : List ℕ) (i n : ℕ) → ((p : ℕ) → p < 64 * i → bit_at ws p ≡ 1) → Ones 64 (get_or ws i 0) n → n < 64 → RunTo ws (min (64 * i + n) 1568)
-run_ends ws i n bits word l =
-    run_from_bits ws (64 * i + n) (ones_on ws i n bits word) (λ _. at_place ws i n (64 * i + n) l (omega arith) ∙ word.stop l)
+-- the words before word i are full, and it is not
+pub run_at : (ws : List ℕ) (i n : ℕ) → ((k : ℕ) → k < i → get_or ws k 0 ≡ 2 ^ 64 - 1) → get_or ws i 0 + 1 < 2 ^ 64 → n ≡ trailing_ones w64 (get_or ws i 0) → RunTo ws (min (64 * i + n) 1568)
+run_at ws i n full below e =
+    let ends = bit_at-trailing_ones w64 (get_or ws i 0) below in
+    let m : ℕ = trailing_ones w64 (get_or ws i 0) in
+    let bits : (p : ℕ) → p < 64 * i + m → bit_at ws p ≡ 1 =
+    λ p h.
+    ⊎_elim (λ (b : p < 64 * i). full_bits ws i full p b)
+    (λ (b : 64 * i ≤ p). at_place ws i (p - 64 * i) p (omega (arith, ends.0)) (omega arith) ∙ ends.2 (p - 64 * i) (omega arith))
+    (cases_lt p (64 * i)) in
+    subst (λ (x : ℕ). RunTo ws (min (64 * i + x) 1568)) (sym e)
+    (run_from_bits ws (64 * i + m) bits (λ _. at_place ws i m (64 * i + m) ends.0 (omega arith) ∙ ends.1))
+
+-- all words are full
+pub run_whole : (ws : List ℕ) → ((k : ℕ) → k < 25 → get_or ws k 0 ≡ 2 ^ 64 - 1) → RunTo ws 1568
+run_whole ws full = run_from_bits ws 1568 (λ p l. full_bits ws 25 full p (omega arith)) (λ l. absurd (omega arith))

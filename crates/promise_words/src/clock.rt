@@ -7,7 +7,7 @@ use crate::timestamps::Timestamps;
 use schedule::figures::LAST_TIMESTAMP;
 
 /// The greatest timestamp promised so far, and the promised ones that belong to no change.
-#[derive(Clone, Copy)]
+#[derive(Clone, Copy, PartialEq, Eq, Debug)]
 pub struct Clock {
     pub time: u32,
     pub detached: Timestamps,

@@ -48,10 +48,7 @@ mod tests {
         assert_eq!(rt; clock.propose(1568)?, 1568);
         assert_eq!(rt; clock.detached.run(), 1567);
         clock.bump(1569);
-        match clock.propose(1) {
-            Ok(_) => assert_eq!(rt; 0, 19),
-            Err(fault) => assert_eq!(rt; fault.number(), 19),
-        }
+        assert_eq!(rt; clock.propose(1).map_err(|fault| fault.number()), Err(19));
         assert_eq!(rt; clock.time, 1568);
         Ok(())
     }
@@ -59,10 +56,7 @@ mod tests {
     #[test]
     fn a_timestamp_past_the_last_is_refused(rt: HostRuntime) {
         let mut clock = Clock::new();
-        match clock.propose(1569) {
-            Ok(_) => assert_eq!(rt; 0, 19),
-            Err(fault) => assert_eq!(rt; fault.number(), 19),
-        }
+        assert_eq!(rt; clock.propose(1569).map_err(|fault| fault.number()), Err(19));
         assert_eq!(rt; clock.time, 0);
     }
 }

@@ -18,6 +18,7 @@ fn up_to(last: u32) -> Timestamps
 }
 
 /// A clock at 1 that is asked for a timestamp not below 6 answers 6, and 2 to 5 are detached.
+#[tactic(auto, unfolding(crate::specs::Timestamps::no_words))]
 pub fn sample_proposal() -> (Result<u32, ClockFault>, Clock)
     ensures { Skipped result.0 result.1 }
 {

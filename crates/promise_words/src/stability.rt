@@ -11,13 +11,7 @@ use schedule::Figures;
 fn holders(sets: &[Timestamps], s: u32) -> usize
     ensures { result ≡ holders s sets.now }
 {
-    let mut n = 0;
-    for set in sets {
-        if set.run() >= s {
-            n += 1;
-        }
-    }
-    n
+    sets.iter().filter(|set| set.run() >= s).count()
 }
 
 /// Whether a majority of the group's sets hold all of 1 to s.
@@ -34,12 +28,10 @@ pub fn stable(figures: &Figures, known: &[Timestamps; 7]) -> u32
     ensures greatest { StableAt figures.now.r known.now result }
 {
     let group = &known[..figures.r as usize];
-    let mut best = 0;
-    for set in group {
-        let run = set.run();
-        if run > best && held_by_majority(figures, group, run) {
-            best = run;
-        }
-    }
-    best
+    group
+        .iter()
+        .map(Timestamps::run)
+        .filter(|run| held_by_majority(figures, group, *run))
+        .max()
+        .unwrap_or(0)
 }

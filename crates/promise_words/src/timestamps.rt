@@ -6,16 +6,18 @@ ghost use Rattle.promise_words.specs.Runs.{RunTo, unbroken};
 
 use line_format::message::WORDS;
 use schedule::figures::LAST_TIMESTAMP;
+use std::array;
 
 /// A set of timestamps: bit k of word w, both from 0, is timestamp 64w + k + 1.
 /// Bits above the last timestamp mean nothing.
-#[derive(Clone, Copy)]
+#[derive(Clone, Copy, PartialEq, Eq, Debug)]
 pub struct Timestamps {
     pub words: [u64; WORDS],
 }
 
 impl Timestamps {
     /// No timestamps.
+    #[tactic(auto, unfolding(crate::specs::Timestamps::no_words))]
     pub fn none() -> Timestamps
         ensures { result.words ≡ no_words }
     {
@@ -26,7 +28,7 @@ impl Timestamps {
     pub fn contains(&self, t: u32) -> bool
         ensures { result ≡ has self.now.words t }
     {
-        if t < 1 || t > LAST_TIMESTAMP {
+        if !(1..=LAST_TIMESTAMP).contains(&t) {
             return false;
         }
         let place = t - 1;
@@ -39,7 +41,7 @@ impl Timestamps {
         ensures value { self.new.words ≡ with_one self.old.words t }
         ensures members { (u : ℕ) → has self.new.words u ≡ (has self.old.words u || among t t u) }
     {
-        if t < 1 || t > LAST_TIMESTAMP {
+        if !(1..=LAST_TIMESTAMP).contains(&t) {
             return;
         }
         let place = t - 1;
@@ -63,9 +65,7 @@ impl Timestamps {
         ensures value { self.new.words ≡ joined self.old.words other.now.words }
         ensures members { (u : ℕ) → has self.new.words u ≡ (has self.old.words u || has other.now.words u) }
     {
-        for i in 0..WORDS {
-            self.words[i] |= other.words[i];
-        }
+        self.words = array::from_fn(|i| self.words[i] | other.words[i]);
     }
 
     /// The unbroken run from timestamp 1: how far all are in.
@@ -73,14 +73,9 @@ impl Timestamps {
         ensures value { result ≡ unbroken self.now.words }
         ensures whole { RunTo self.now.words result }
     {
-        let mut run = 0;
-        for word in &self.words {
-            let ones = word.trailing_ones();
-            if ones < 64 {
-                return (run + ones).min(LAST_TIMESTAMP);
-            }
-            run += 64;
+        match self.words.iter().position(|word| *word != u64::MAX) {
+            Some(i) => (64 * i as u32 + self.words[i].trailing_ones()).min(LAST_TIMESTAMP),
+            None => LAST_TIMESTAMP,
         }
-        LAST_TIMESTAMP
     }
 }

@@ -1,33 +1,32 @@
 //! Replies to a take-over, of which one tells what was accepted.
 
-ghost use Rattle.ranking.specs.Orders.{accepted_eligible, accepted_before};
+ghost use Rattle.ranking.specs.Orders.{tells, outranks};
 ghost use Rattle.std.proofs.Common.{rules};
 
 use crate::rank::Ranked;
+use std::cmp::Reverse;
 
 /// A controller's reply: the greatest accepted ballot first, then the lowest controller. Ballot 0 is none.
-#[derive(Clone, Copy)]
+#[derive(Clone, Copy, PartialEq, Eq, PartialOrd, Ord, Debug)]
 pub struct Accepted {
-    pub given: bool,
-    pub ballot: u32,
+    pub ballot: Reverse<u32>,
     pub controller: u32,
 }
 
 impl Ranked for Accepted {
-    ghost eligible = { accepted_eligible };
+    ghost eligible = { tells };
 
-    ghost before = { accepted_before };
+    ghost before = { outranks };
 
     ghost asymmetric = { Prim.search rules };
 
     ghost chains = { Prim.search rules };
 
     fn is_eligible(&self) -> bool {
-        self.given && self.ballot != 0
+        self.ballot.0 != 0
     }
 
     fn is_before(&self, other: &Accepted) -> bool {
-        self.ballot > other.ballot
-            || self.ballot == other.ballot && self.controller < other.controller
+        self < other
     }
 }

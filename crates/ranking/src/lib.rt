@@ -12,21 +12,17 @@ pub use rank::{Ranked, first_in_rank};
 #[cfg(test)]
 mod tests {
     use crate::{Accepted, Due, first_in_rank};
+    use std::cmp::Reverse;
 
-    fn due(eligible: bool, timestamp: u32, id: u32) -> Due {
-        Due {
-            eligible,
-            timestamp,
-            id,
-        }
+    fn due(eligible: bool, timestamp: u32, id: u32) -> Option<Due> {
+        eligible.then_some(Due { timestamp, id })
     }
 
-    fn accepted(given: bool, ballot: u32, controller: u32) -> Accepted {
-        Accepted {
-            given,
-            ballot,
+    fn accepted(given: bool, ballot: u32, controller: u32) -> Option<Accepted> {
+        given.then_some(Accepted {
+            ballot: Reverse(ballot),
             controller,
-        }
+        })
     }
 
     #[test]

@@ -1,6 +1,8 @@
 //! Entries with a rank, and the search for the first.
 
 ghost use Rattle.std.specs.Prelude.{◌≡◌, Bool, true, false, length};
+ghost use Rattle.std.proofs.Common.{rules};
+ghost use Rattle.ranking.specs.Entries.{some_eligible, some_before};
 ghost use Rattle.ranking.specs.Ranking.{PlaceWithin, leads, first_in_rank, FirstAmong, OnlyFirst, AnyOrder};
 
 /// An entry that may stand in a rank. Two entries neither of which is before the other are tied.
@@ -22,6 +24,31 @@ pub trait Ranked {
 
     // With it, `before` and being tied both go on from entry to entry.
     ghost chains: { (x y z : Self) → before x y ≡ false → before y z ≡ false → before x z ≡ false };
+}
+
+/// An entry that may be missing, and then takes no part.
+impl<T: Ranked> Ranked for Option<T> {
+    ghost eligible = { some_eligible T.Ranked.eligible };
+
+    ghost before = { some_before T.Ranked.before };
+
+    ghost asymmetric = { Prim.search rules };
+
+    ghost chains = { Prim.search rules };
+
+    fn is_eligible(&self) -> bool {
+        match self {
+            Some(x) => x.is_eligible(),
+            None => false,
+        }
+    }
+
+    fn is_before(&self, other: &Option<T>) -> bool {
+        match (self, other) {
+            (Some(x), Some(y)) => x.is_before(y),
+            _ => self.is_some(),
+        }
+    }
 }
 
 // Whether an entry is before the first so far, or is the first of all.

@@ -1,8 +1,10 @@
 -- The first ballot of a row that belongs to a controller.
-use Rattle.std.proofs.Common.{◌≡◌, ℕ, zero, suc, ◌+◌, ◌-◌, ◌*◌, ◌/◌, ◌%◌, ◌<◌, ◌≤◌, max, Bool, true, false, cond, Some, None, Option, sym, refl, ap, ◌∙◌, ap₂, inl, inr, mod-lt, eq-or-lt_of_le, arith}
+use Rattle.std.proofs.Common.{◌≡◌, ℕ, zero, suc, ◌+◌, ◌-◌, ◌*◌, ◌/◌, ◌%◌, ◌<◌, ◌≤◌, max, Bool, true, false, cond, Some, None, Option, sym, refl, ap, ◌∙◌, inl, inr, mod-lt, eq-or-lt_of_le, add-one, arith}
 use native.Mathlib.Omega.{by_contra}
 use native.Mathlib.Nat.{mod-le, div-add-mod, add-mul-mod_self_left}
+use Rattle.std.proofs.lemmas.Bool.{both_ways}
 use Rattle.std.proofs.lemmas.Bool.Decides.{nat_tests}
+use Rattle.std.specs.List.{find, range_with_len}
 use Rattle.schedule.specs.Group.{last_ballot, owner}
 use Rattle.sites.specs.Sites.{owns, first_own, LeastOwn}
 
@@ -15,22 +17,10 @@ none_above r c b zero above = λ i. None
 none_above r c b (suc n) above =
     ap (λ own. cond own (Some b) (first_own r c (suc b) n)) (none_owned r c b above) ∙ none_above r c (suc b) n (omega (arith, above))
 
--- one that belongs to the controller is the first
-pub found : (r c b n : ℕ) → owns r c b ≡ true → 1 ≤ n → first_own r c b n ≡ Some b
-found r c b zero own some = absurd (omega (arith, some))
-found r c b (suc n) own some = ap (λ own. cond own (Some b) (first_own r c (suc b) n)) own
-
--- one that does not is passed over
-pub passed : (r c b n : ℕ) → owns r c b ≡ false → 1 ≤ n → first_own r c b n ≡ first_own r c (b + 1) (n - 1)
-passed r c b zero own some = absurd (omega (arith, some))
-passed r c b (suc n) own some =
-    ap (λ own. cond own (Some b) (first_own r c (suc b) n)) own ∙ ap₂ (first_own r c) (one_more b) (one_less n)
-  where
-    one_more : (b : ℕ) → suc b ≡ b + 1
-    one_more b = omega arith
-
-    one_less : (n : ℕ) → n ≡ suc n - 1
-    one_less n = omega arith
+-- the first of the row, as the code finds it
+pub found : (r c b n : ℕ) → find (owns r c) (range_with_len b n) ≡ first_own r c b n
+found r c b zero = refl
+found r c b (suc n) = ap (λ rest. cond (owns r c b) (Some b) rest) (found r c (b + 1) n ∙ ap (λ next. first_own r c next n) (add-one b))
 
 owned : (r c n : ℕ) → 1 ≤ n → n ≤ last_ballot → owner r n ≡ c → owns r c n ≡ true
 owned r c n low high own = grind (arith, nat_tests)
@@ -40,9 +30,6 @@ own_fits r c n own = grind (arith, nat_tests)
 
 own_owner : (r c n : ℕ) → owns r c n ≡ true → owner r n ≡ c
 own_owner r c n own = grind (arith, nat_tests)
-
-not_both : (x : Bool) → x ≡ true → x ≡ false → ⊥
-not_both x yea nay = let z : ◌≡◌ {A = ℕ} 0 1 = cc in omega arith
 
 -- what is found belongs to the controller, and nothing before it does
 record First (r c b n : ℕ) : Type 0 where
@@ -67,7 +54,7 @@ first_is r c b (suc k) n e = at (owns r c b) refl (first_is r c (suc b) k n) e
           own = rest.own;
           before =
               λ m low high own.
-              elim (eq-or-lt_of_le low) [ inl same ↦ not_both (owns r c m) own (sym (ap (owns r c) same) ∙ is) | inr more ↦ rest.before m more high own ];
+              elim (eq-or-lt_of_le low) [ inl same ↦ both_ways (owns r c m) (sym (ap (owns r c) same) ∙ is) own | inr more ↦ rest.before m more high own ];
         }
 
 -- where nothing is found, none belongs to the controller
@@ -81,7 +68,7 @@ none_is r c b (suc k) e m low high own = at (owns r c b) refl (none_is r c (suc 
         cond here (Some b) (first_own r c (suc b) k) ≡ None → ⊥
     at true is later e = let z : ◌≡◌ {A = ℕ} 0 1 = cc in omega arith
     at false is later e =
-        elim (eq-or-lt_of_le low) [ inl same ↦ not_both (owns r c m) own (sym (ap (owns r c) same) ∙ is) | inr more ↦ later e m more (omega arith) own ]
+        elim (eq-or-lt_of_le low) [ inl same ↦ both_ways (owns r c m) (sym (ap (owns r c) same) ∙ is) own | inr more ↦ later e m more (omega arith) own ]
 
 -- of r numbers in a row, from b on, one has the owner that n has
 same_owner : (r b n : ℕ) → 1 ≤ b → b ≤ n → owner r n ≡ owner r (b + (n - b) % r)

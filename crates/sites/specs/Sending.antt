@@ -8,7 +8,7 @@ use Rattle.sites.specs.declared.sent.Sent.{Sent}
 abbrev pub all_of : ℕ → ℕ
 all_of r = 2 ^ r - 1
 
-abbrev addressed : ℕ → Message → Sent
+abbrev pub addressed : ℕ → Message → Sent
 addressed to m = record { to = record { bits = to }; message = m }
 
 -- controller c alone; nobody, where no group has such a number

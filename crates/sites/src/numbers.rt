@@ -12,7 +12,7 @@ impl Site {
     pub fn new(figures: Figures, own: u32) -> Result<Site, FiguresFault>
         ensures { Placed figures own result }
     {
-        if own >= 1 && own <= figures.r {
+        if (1..=figures.r).contains(&own) {
             Ok(Site { figures, own })
         } else {
             Err(FiguresFault::OutsideLimits)
@@ -23,10 +23,7 @@ impl Site {
     pub fn is_owner(&self, controller: u32, ballot: u32) -> bool
         ensures { result ≡ owns self.now.figures.r controller ballot }
     {
-        match self.figures.owner(ballot) {
-            Some(owner) => owner == controller,
-            None => false,
-        }
+        self.figures.owner(ballot) == Some(controller)
     }
 
     /// Whether a ballot belongs here.
@@ -40,20 +37,15 @@ impl Site {
     pub fn home(&self, id: u32) -> u32
         ensures { result ≡ home_or_none self.now.figures.r id }
     {
-        match self.figures.home(id) {
-            Some(home) => home,
-            None => 0,
-        }
+        // kept: the one caller puts 0 for none, so an Option would only move `unwrap_or(0)` there
+        self.figures.home(id).unwrap_or(0)
     }
 
     /// Whether a change is entered at a controller of the group.
     pub fn is_home(&self, controller: u32, id: u32) -> bool
         ensures { result ≡ at_home self.now.figures.r controller id }
     {
-        match self.figures.home(id) {
-            Some(home) => home == controller,
-            None => false,
-        }
+        self.figures.home(id) == Some(controller)
     }
 
     /// The least ballot above r and above the given one that belongs here; none above the last ballot.
@@ -65,11 +57,6 @@ impl Site {
             return None;
         }
         let first = ballot.max(self.figures.r) + 1;
-        for b in first..first + self.figures.r {
-            if self.owns(b) {
-                return Some(b);
-            }
-        }
-        None
+        (first..first + self.figures.r).find(|b| self.owns(*b))
     }
 }

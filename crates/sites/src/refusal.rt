@@ -7,7 +7,7 @@ use line_format::LineFault;
 use promise_words::ClockFault;
 
 /// Why a call was turned down. What the line or the clock found is held whole.
-#[derive(Clone, Copy)]
+#[derive(Clone, Copy, PartialEq, Eq, Debug)]
 pub enum Refusal {
     /// The buffer, or the message: its shape or its limits.
     Line(LineFault),

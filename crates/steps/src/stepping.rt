@@ -151,7 +151,7 @@ impl Turn<'_> {
                 sender: self.site.own,
                 id,
                 timestamp: self.row.timestamp,
-                phase: self.row.phase.number(),
+                phase: self.row.phase.into(),
                 accepted: self.row.accepted,
                 ballot,
             },
@@ -265,7 +265,7 @@ pub fn step(
             let told = Recovery {
                 given: true,
                 timestamp: *timestamp,
-                phase: Phase::of(*phase).ok_or(Refusal::OutOfStep)?,
+                phase: Phase::try_from(*phase).map_err(|_| Refusal::OutOfStep)?,
                 accepted: *accepted,
             };
             Ok(turn.hear(*id, *sender, *ballot, told))

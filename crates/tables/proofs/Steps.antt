@@ -5,25 +5,20 @@ use Rattle.std.proofs.lemmas.Bool.{and_left, and_right, cond-true, cond-false, l
 use Rattle.line_format.specs.declared.message.Pair.{Pair}
 use Rattle.line_format.specs.Reading.{no_pair}
 use Rattle.ranking.specs.declared.due.Due.{Due}
-use Rattle.record.specs.Phases.{settled}
+use Rattle.schedule.specs.Phases.{settled}
 use Rattle.record.specs.Rows.{blank}
 use Rattle.record.specs.declared.row.Row.{Row}
 use Rattle.tables.specs.Tables.{pairs_from, own_promises, settled_at, with_pair, with_pairs, due_entry, due_from}
 
--- one more entry written, one record on
-pub due_more : (s : ℕ) (es : List Due) (ws : List Row) (i : ℕ) (d : Row) → i < length es → i < length ws
-    → take (i + 1) (set es i (due_entry s (i + 1) (get_or ws i d))) ++ due_from s (i + 1 + 1) (drop (i + 1) ws) ≡ take i es ++ due_from s (i + 1) (drop i ws)
-due_more s es ws i d k l =
-    let e : Due = due_entry s (i + 1) (get_or ws i d) in
-    let rest : List Due = due_from s (i + 1 + 1) (drop (i + 1) ws) in
-    ap (λ (t : List Due). t ++ rest) (take_more_set es i e k)
-    ∙ append_assoc (take i es) _ rest
-    ∙ ap (λ (j : ℕ). take i es ++ e ∷ due_from s j (drop (i + 1) ws)) (add-one (i + 1))
-    ∙ ap (λ (t : List Due). take i es ++ t) (sym (at_drop_more (due_from s (i + 1)) ws i d l))
-
-pub due_all : (s : ℕ) (es : List Due) (ws : List Row) (i : ℕ) → length es ≤ i → length ws ≤ i → take i es ++ due_from s (i + 1) (drop i ws) ≡ es
-due_all s es ws i k l =
-    ap (λ (t : List Due). take i es ++ t) (at_drop_all (due_from s (i + 1)) ws i l) ∙ append-nil (take i es) ∙ take_all i es k
+-- the list that has at each place the entry of the record there
+pub due_is : (s id : ℕ) (es : List (Option Due)) (ws : List Row) → length es ≡ length ws → ((k : ℕ) (d : Option Due) → k < length es → get_or es k d ≡ due_entry s (id + k) (get_or ws k blank)) → es ≡ due_from s id ws
+due_is s id [] [] l each = refl
+due_is s id [] (w ∷ ws) l each = absurd (omega arith)
+due_is s id (e ∷ es) [] l each = absurd (omega arith)
+due_is s id (e ∷ es) (w ∷ ws) l each =
+    ap₂ (λ (e : Option Due) (es : List (Option Due)). e ∷ es)
+    (each 0 None (omega arith) ∙ ap (λ (n : ℕ). due_entry s n w) (omega arith))
+    (due_is s (suc id) es ws (omega arith) (λ k d below. each (suc k) d (omega arith) ∙ ap (λ (n : ℕ). due_entry s n (get_or ws k blank)) (omega arith)))
 
 -- a record without an own promise is passed, and any other is put at the next place
 module _ (ws : List Row) (i : ℕ) (d : Row) (l : i < length ws) where

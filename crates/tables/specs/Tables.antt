@@ -1,5 +1,5 @@
 -- The table of a controller's records: the record of change n stands at place n − 1.
-use Rattle.std.specs.Prelude.{ℕ, suc, ◌-◌, Bool, cond, ◌&&◌, List, [], ◌∷◌, ◌++◌, length, take, drop, replicate, count_by, Option, ◌==◌, nat_le, slice_index_or}
+use Rattle.std.specs.Prelude.{ℕ, suc, ◌-◌, Bool, cond, ◌&&◌, List, [], ◌∷◌, ◌++◌, length, take, drop, replicate, count_by, Some, None, Option, ◌==◌, nat_le, slice_index_or}
 use Rattle.line_format.specs.Limits.{most_pairs}
 use Rattle.line_format.specs.Reading.{no_pairs}
 use Rattle.line_format.specs.declared.message.Pair.{Pair}
@@ -8,10 +8,10 @@ use Rattle.promise_words.specs.Timestamps.{with_one, joined}
 use Rattle.ranking.specs.Orders.{due_eligible, due_before}
 use Rattle.ranking.specs.Ranking.{first_in_rank}
 use Rattle.ranking.specs.declared.due.Due.{Due}
-use Rattle.record.specs.Phases.{phase_number, settled}
 use Rattle.record.specs.Rows.{blank, carried_out}
-use Rattle.record.specs.declared.phase.Phase.TheVariants.{CarriedOut}
 use Rattle.record.specs.declared.row.Row.{Row}
+use Rattle.schedule.specs.Phases.{phase_number, settled}
+use Rattle.schedule.specs.declared.phase.Phase.TheVariants.{CarriedOut}
 
 -- nothing is known of any change
 unfoldable pub blank_rows : List Row
@@ -46,11 +46,11 @@ with_pairs ws known (p ∷ ps) = with_pairs ws (with_pair ws known p) ps
 abbrev pub learnt : List Row → List ℕ → Promises → List ℕ
 learnt ws known p = with_pairs ws (joined known p.detached) (take p.count p.pairs)
 
--- committed, and not above the stable timestamp
-abbrev pub due_entry : ℕ → ℕ → Row → Due
-due_entry s id w = record { eligible = phase_number w.phase == 5 && nat_le w.timestamp s; timestamp = w.timestamp; id = id }
+-- an entry of the search where the record is committed, and not above the stable timestamp
+abbrev pub due_entry : ℕ → ℕ → Row → Option Due
+due_entry s id w = cond (phase_number w.phase == 5 && nat_le w.timestamp s) (Some (record { timestamp = w.timestamp; id = id })) None
 
-abbrev pub due_from : ℕ → ℕ → List Row → List Due
+abbrev pub due_from : ℕ → ℕ → List Row → List (Option Due)
 due_from s id [] = []
 due_from s id (w ∷ ws) = due_entry s id w ∷ due_from s (suc id) ws
 

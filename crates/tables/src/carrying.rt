@@ -7,31 +7,21 @@ use crate::rows::Rows;
 use line_format::message::PAIRS;
 use ranking::{Due, first_in_rank};
 use record::{Phase, Row};
+use std::array;
 
-/// A record as an entry of the search for the change that is due.
-fn due_entry(row: &Row, id: u32, stable: u32) -> Due
+/// A record as an entry of the search for the change that is due, if it is committed and not above `stable`.
+fn due_entry(row: &Row, id: u32, stable: u32) -> Option<Due>
     ensures { result ≡ due_entry stable id row.now }
 {
-    Due {
-        eligible: row.phase == Phase::Commit && row.timestamp <= stable,
-        timestamp: row.timestamp,
-        id,
-    }
+    let timestamp = row.timestamp;
+    (row.phase == Phase::Commit && timestamp <= stable).then_some(Due { timestamp, id })
 }
 
 /// The records as entries of the search.
-fn due_entries(rows: &[Row; PAIRS], stable: u32) -> [Due; PAIRS]
+fn due_entries(rows: &[Row; PAIRS], stable: u32) -> [Option<Due>; PAIRS]
     ensures { result ≡ due_from stable 1 rows.now }
 {
-    let mut entries = [Due {
-        eligible: false,
-        timestamp: 0,
-        id: 0,
-    }; PAIRS];
-    for (i, row) in rows.iter().enumerate() {
-        entries[i] = due_entry(row, i as u32 + 1, stable);
-    }
-    entries
+    array::from_fn(|i| due_entry(&rows[i], i as u32 + 1, stable))
 }
 
 /// Whether the change of a record was carried out.
@@ -39,19 +29,6 @@ fn was_carried(row: &Row) -> bool
     ensures { result ≡ is_carried row.now }
 {
     row.phase == Phase::CarriedOut
-}
-
-/// How many of these were carried out.
-fn carried(rows: &[Row; PAIRS]) -> u32
-    ensures { result ≡ carried_count rows.now }
-{
-    let mut n = 0;
-    for row in rows {
-        if was_carried(row) {
-            n += 1;
-        }
-    }
-    n
 }
 
 impl Rows {
@@ -67,7 +44,7 @@ impl Rows {
     pub fn carried(&self) -> u32
         ensures { result ≡ carried_count self.now.rows }
     {
-        carried(&self.rows)
+        self.rows.iter().filter(|row| was_carried(row)).count() as u32
     }
 }
 

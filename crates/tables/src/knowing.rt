@@ -12,8 +12,7 @@ use promise_words::Timestamps;
 fn first_pairs(pairs: &[Pair], count: u32) -> &[Pair]
     ensures { result.now ≡ take count pairs.now }
 {
-    let n = pairs.len().min(count as usize);
-    &pairs[..n]
+    pairs.get(..count as usize).unwrap_or(pairs)
 }
 
 impl Rows {
@@ -21,13 +20,10 @@ impl Rows {
     pub fn is_settled(&self, id: u32) -> bool
         ensures { result ≡ settled_at self.now.rows id }
     {
-        if id < 1 {
-            return false;
-        }
-        match self.rows.get(id as usize - 1) {
-            Some(row) => row.phase.is_settled(),
-            None => false,
-        }
+        (id as usize)
+            .checked_sub(1)
+            .and_then(|place| self.rows.get(place))
+            .is_some_and(|row| row.phase.is_settled())
     }
 
     /// Adds the own promise of a pair if its change is committed here.

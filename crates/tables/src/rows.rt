@@ -14,6 +14,7 @@ pub struct Rows {
 
 impl Rows {
     /// Nothing is known of any change.
+    #[tactic(auto, unfolding(crate::specs::Tables::blank_rows))]
     pub fn blank() -> Rows
         ensures { result.rows ≡ blank_rows }
     {

@@ -16,6 +16,7 @@ fn put_promises(rows: &[Row; PAIRS], pairs: &mut [Pair; PAIRS]) -> usize
     ensures within { result ≤ 224 }
 {
     let mut count = 0;
+    // kept: tried with a zip of `pairs.iter_mut()`, after which a proof knows none of the pairs that were written
     for (i, row) in rows.iter().enumerate() {
         if row.promise != 0 {
             pairs[count] = Pair {
@@ -30,6 +31,7 @@ fn put_promises(rows: &[Row; PAIRS], pairs: &mut [Pair; PAIRS]) -> usize
 
 impl Rows {
     /// The promises of a controller with these detached ones: they, and each change with its own promise.
+    #[tactic(auto, unfolding(line_format::specs::Reading::no_pairs))]
     pub fn told(&self, detached: &Timestamps) -> Promises
         ensures { result ≡ told detached.now.words self.now.rows }
     {

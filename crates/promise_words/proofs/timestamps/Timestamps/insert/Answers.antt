@@ -7,5 +7,5 @@ pub returns : goal.returns
 returns c =
     let ws = c.args.self.now.words in
     let t = c.args.t in
-    let e = written ws t (omega arith) (omega arith) in
+    let e = written ws t (grind arith) (grind arith) in
     record { value = e; members = λ u. ap (λ (vs : List ℕ). has vs u) e ∙ one_has ws t u (omega arith) }

@@ -1,6 +1,10 @@
-use Rattle.std.proofs.Common.{◌≡◌, suc, ◌+◌, ◌-◌, max, Some, None, sym, ap, ◌∙◌, arith}
-use Rattle.sites.specs.Sites.{first_own, next_ballot}
-use Rattle.sites.proofs.Ballots.{none_above, found, passed, least}
+use Rattle.std.proofs.Common.{◌≡◌, suc, ◌+◌, max, None, refl, sym, ap, ◌∙◌, rules, arith}
+use Rattle.std.proofs.lemmas.Iterator.{YieldsList-from_range}
+use Rattle.std.proofs.lemmas.Iterator.Adapters.{option_map_id}
+use Rattle.std.proofs.lemmas.Iterator.Search.{find_from_yields_List}
+use Rattle.std.specs.List.{find, range_with_len}
+use Rattle.sites.specs.Sites.{owns, first_own, next_ballot}
+use Rattle.sites.proofs.Ballots.{none_above, found, least}
 use Rattle.sites.proofs.site.Site.next_ballot.Goals as goal
 
 pub returns-then-ballot-ge-LAST_BALLOT : goal.returns-then-ballot-ge-LAST_BALLOT
@@ -10,33 +14,16 @@ returns-then-ballot-ge-LAST_BALLOT c =
     let is : next_ballot r site.own c.args.ballot ≡ None = none_above r site.own (suc (max r c.args.ballot)) r (omega arith) in
     record { value = sym is; least = least r site.own c.args.ballot (omega arith) None is }
 
-pub returns-then-owns : goal.returns-then-owns
-returns-then-owns c =
-    let site = c.args.self.now in
-    let r = site.figures.r in
-    let b = c.loop-b.b in
-    let first : c.max-first.result + 1 ≡ suc (max r c.args.ballot) = omega arith in
-    let is : next_ballot r site.own c.args.ballot ≡ Some b =
-    sym (ap (λ b. first_own r site.own b r) first) ∙ c.loop-b.invariant.0
-    ∙ found r site.own b _ (sym c.if-owns.ensures) (omega arith) in
-    record { value = sym is; least = least r site.own c.args.ballot (omega arith) (Some b) is }
-
-pub loop-b-preserved : goal.loop-b-preserved
-loop-b-preserved c =
-    let site = c.args.self.now in
-    let r = site.figures.r in
-    let b = c.loop-b.b in
-    let first = c.max-first.result + 1 in
-    let less : first + r - b - 1 ≡ first + r - (b + 1) = omega arith in
-    (c.loop-b.invariant.0 ∙ passed r site.own b (first + r - b) (sym c.if-owns.ensures) (omega arith) ∙ ap (first_own r site.own (b + 1)) less, omega arith)
-
 pub returns : goal.returns
 returns c =
     let site = c.args.self.now in
     let r = site.figures.r in
-    let b = c.loop-b.b in
-    let first : c.max-first.result + 1 ≡ suc (max r c.args.ballot) = omega arith in
-    let over : c.max-first.result + 1 + r - b ≡ 0 = omega arith in
-    let is : next_ballot r site.own c.args.ballot ≡ None =
-    sym (ap (λ b. first_own r site.own b r) first) ∙ c.loop-b.invariant.0 ∙ ap (first_own r site.own b) over in
-    record { value = sym is; least = least r site.own c.args.ballot (omega arith) None is }
+    let first = c.max-first.result + 1 in
+    let start : first ≡ suc (max r c.args.ballot) = omega arith in
+    let first_found : c.find.result ≡ find (owns r site.own) (range_with_len first r) =
+    sym (option_map_id c.find.result)
+    ∙ find_from_yields_List (owns r site.own) _ _ c.find.result c.find.ensures.ran (YieldsList-from_range first (first + r) r refl (omega arith))
+    (λ x b q k. search rules) in
+    let is : next_ballot r site.own c.args.ballot ≡ c.find.result =
+    sym (first_found ∙ found r site.own first r ∙ ap (λ b. first_own r site.own b r) start) in
+    record { value = sym is; least = least r site.own c.args.ballot (omega arith) c.find.result is }
