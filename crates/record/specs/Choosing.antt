@@ -1,67 +1,57 @@
 -- Replies to a take-over, and the timestamp that they leave to choose.
-use Rattle.std.specs.Prelude.{ℕ, suc, ◌-◌, max, Bool, true, false, cond, not, ◌&&◌, ◌||◌, List, [], ◌∷◌, set, replicate, Some, None, count_by, Option, ◌==◌, nat_le, slice_index_or}
+use Rattle.std.specs.Prelude.{ℕ, ◌+◌, max, Bool, true, false, cond, ◌&&◌, ◌||◌, List, map, Some, None, Option, ◌==◌, slice_index_or}
+use Rattle.std.specs.Bool.{then_some}
+use Rattle.std.specs.List.{filter_map, list_any, range_with_len, reduce}
+use Rattle.std.specs.Option.{option_map, option_and_then, option_map_or, unwrap_or}
 use Rattle.schedule.specs.Sets.{member}
 use Rattle.schedule.specs.declared.set.ControllerSet.{ControllerSet}
 use Rattle.ranking.specs.Orders.{accepted_eligible, accepted_before}
 use Rattle.ranking.specs.Ranking.{first_in_rank}
 use Rattle.ranking.specs.declared.accepted.Accepted.{Accepted}
 use Rattle.schedule.specs.Phases.{phase_number}
-use Rattle.record.specs.Replies.{seats}
-use Rattle.schedule.specs.declared.phase.Phase.TheVariants.{Start}
+use Rattle.record.specs.Replies.{numbered, seats, with_reply}
 use Rattle.record.specs.declared.recoveries.Recovery.{Recovery}
 
-abbrev pub no_recovery : Recovery
-no_recovery = record { given = false; timestamp = 0; phase = Start; accepted = 0 }
+abbrev pub with_recovery : List (Option Recovery) → ℕ → Recovery → List (Option Recovery)
+with_recovery rs j x = with_reply rs j (Some x)
 
-abbrev pub no_recoveries : List Recovery
-no_recoveries = replicate seats no_recovery
+-- the reply of j as an entry of the search
+abbrev pub accepted_entry : ℕ → Option Recovery → Option Accepted
+accepted_entry j = option_map (λ x. record { ballot = record { 0 = x.accepted }; controller = j })
 
--- a sender is new if it has a place, and none of its replies is held
-abbrev pub unheard : List Recovery → ℕ → Bool
-unheard rs j = nat_le 1 j && nat_le j seats && not (slice_index_or rs (j - 1) no_recovery).given
+abbrev pub accepted_entries : List (Option Recovery) → List (Option Accepted)
+accepted_entries rs = map (λ i. accepted_entry (i + 1) (slice_index_or rs i None)) (range_with_len 0 seats)
 
-abbrev pub with_recovery : List Recovery → ℕ → Recovery → List Recovery
-with_recovery rs j x = cond (nat_le 1 j && nat_le j seats) (set rs (j - 1) x) rs
-
--- how many replied
-abbrev pub heard : List Recovery → ℕ
-heard rs = count_by (λ x. x.given) rs
-
--- the replies as entries of the search, of the controllers from j on
-abbrev pub accepted_from : ℕ → List Recovery → List Accepted
-accepted_from j [] = []
-accepted_from j (x ∷ xs) = record { given = x.given; ballot = x.accepted; controller = j } ∷ accepted_from (suc j) xs
-
--- j replied and is in the fast set, and is the home or was in phase recover-r
+-- j is in the fast set, and is the home or was in phase recover-r
 abbrev pub late : ℕ → ℕ → ℕ → Recovery → Bool
-late h members j x = x.given && member members j && (j == h || phase_number x.phase == 3)
+late h members j x = member members j && (j == h || phase_number x.phase == 3)
 
--- of the controllers from j on: the home replied and is in the fast set, or a member of it replied in phase recover-r
-abbrev pub late_from : ℕ → ℕ → ℕ → List Recovery → Bool
-late_from h members j [] = false
-late_from h members j (x ∷ xs) = late h members j x || late_from h members (suc j) xs
+-- the home replied and is in the fast set, or a member of it replied in phase recover-r
+abbrev pub late_any : ℕ → ℕ → List (Option Recovery) → Bool
+late_any h members rs = list_any (λ p. option_map_or (late h members p.0) p.1 false) (numbered rs)
 
 -- whose timestamp counts: everyone's, or that of the members of a set
 abbrev pub counted : Option ControllerSet → ℕ → Bool
 counted None = λ _. true
 counted (Some set) = member set.bits
 
--- the timestamp of j if it replied and counts, else 0
-abbrev pub counted_timestamp : (ℕ → Bool) → ℕ → Recovery → ℕ
-counted_timestamp counts j x = cond (x.given && counts j) x.timestamp 0
+-- the timestamp of j if it replied and counts
+abbrev pub counted_timestamp : (ℕ → Bool) → ℕ → Option Recovery → Option ℕ
+counted_timestamp counts j = option_and_then (λ x. then_some (counts j) x.timestamp)
 
--- the greatest timestamp of those that replied and count, of the controllers from j on
-abbrev pub greatest_from : (ℕ → Bool) → ℕ → List Recovery → ℕ
-greatest_from counts j [] = 0
-greatest_from counts j (x ∷ xs) = max (counted_timestamp counts j x) (greatest_from counts (suc j) xs)
+-- the greatest timestamp of those that replied and count
+abbrev pub greatest_counted : (ℕ → Bool) → List (Option Recovery) → Option ℕ
+greatest_counted counts rs = reduce max (filter_map (λ p. counted_timestamp counts p.0 p.1) (numbered rs))
 
 -- If some reply tells of an accepted ballot, the timestamp of the greatest one, of the lowest controller on a tie.
 -- Otherwise, where the home or a promise of a take-over is among the repliers in the fast set, the greatest
 -- timestamp of all; else the greatest of the repliers in the fast set.
-abbrev pub chosen : ℕ → ℕ → List Recovery → Option ℕ → ℕ
-chosen h members rs (Some place) = (slice_index_or rs place no_recovery).timestamp
+abbrev pub chosen : ℕ → ℕ → List (Option Recovery) → Option Recovery → ℕ
+chosen h members rs (Some x) = x.timestamp
 chosen h members rs None =
-    cond (late_from h members 1 rs) (greatest_from (λ _. true) 1 rs) (greatest_from (member members) 1 rs)
+    unwrap_or (cond (late_any h members rs) (greatest_counted (λ _. true) rs) (greatest_counted (member members) rs)) 0
 
-abbrev pub choice : ℕ → ℕ → List Recovery → ℕ
-choice h members rs = chosen h members rs (first_in_rank accepted_eligible accepted_before (accepted_from 1 rs))
+abbrev pub choice : ℕ → ℕ → List (Option Recovery) → ℕ
+choice h members rs =
+    chosen h members rs
+    (option_and_then (λ i. slice_index_or rs i None) (first_in_rank accepted_eligible accepted_before (accepted_entries rs)))

@@ -2,23 +2,22 @@
 use Rattle.std.specs.Prelude.{ℕ}
 use Rattle.schedule.specs.declared.change.Change.{Change}
 use Rattle.schedule.specs.declared.set.ControllerSet.{ControllerSet}
-use Rattle.record.specs.Replies.{no_timestamps}
-use Rattle.record.specs.Choosing.{no_recoveries}
+use Rattle.record.specs.Replies.{no_replies}
 use Rattle.record.specs.declared.acks.Acks.{Acks}
 use Rattle.schedule.specs.declared.phase.Phase.{Phase}
 use Rattle.schedule.specs.declared.phase.Phase.TheVariants.{Start}
-use Rattle.record.specs.declared.proposals.Proposals.{Proposals}
-use Rattle.record.specs.declared.recoveries.Recoveries.{Recoveries}
+use Rattle.record.specs.declared.recoveries.Recovery.{Recovery}
+use Rattle.record.specs.declared.replies.Replies.{Replies}
 use Rattle.record.specs.declared.row.Row.{Row}
 
-abbrev pub no_proposals : Proposals
-no_proposals = record { timestamps = no_timestamps }
+abbrev pub no_proposals : Replies ℕ
+no_proposals = record { replies = no_replies }
 
 abbrev pub no_acks : Acks
 no_acks = record { from = record { bits = 0 } }
 
-abbrev pub none_heard : Recoveries
-none_heard = record { replies = no_recoveries }
+abbrev pub none_heard : Replies Recovery
+none_heard = record { replies = no_replies }
 
 -- nothing is known of the change
 abbrev pub blank : Row
@@ -51,7 +50,7 @@ with_promise t w =
     record { phase = w.phase; change = w.change; set = w.set; timestamp = w.timestamp; ballot = w.ballot; accepted = w.accepted; promise = t; proposals = w.proposals; acks = w.acks; recoveries = w.recoveries; place = w.place; outcome = w.outcome }
 
 -- the replies, by kind
-abbrev pub with_replies : Proposals → Acks → Recoveries → Row → Row
+abbrev pub with_replies : Replies ℕ → Acks → Replies Recovery → Row → Row
 with_replies p a h w =
     record { phase = w.phase; change = w.change; set = w.set; timestamp = w.timestamp; ballot = w.ballot; accepted = w.accepted; promise = w.promise; proposals = p; acks = a; recoveries = h; place = w.place; outcome = w.outcome }
 

@@ -4,11 +4,11 @@ ghost use Rattle.std.specs.Prelude.{◌≡◌};
 ghost use Rattle.schedule.specs.Sets.{size};
 ghost use Rattle.record.specs.Replies.{with_member, newcomer};
 
-use crate::proposals::seat;
+use crate::replies::seat;
 use schedule::ControllerSet;
 
 /// The controllers whose acceptance came.
-#[derive(Clone, Copy)]
+#[derive(Clone, Copy, PartialEq, Eq, Debug)]
 pub struct Acks {
     pub from: ControllerSet,
 }
@@ -27,10 +27,7 @@ impl Acks {
     pub fn is_new(&self, controller: u32) -> bool
         ensures { result ≡ newcomer self.now.from.bits controller }
     {
-        match seat(controller) {
-            Some(_) => !self.from.contains(controller),
-            None => false,
-        }
+        seat(controller).is_some() && !self.from.contains(controller)
     }
 
     /// Notes a controller's; one without a place is passed over.

@@ -1,21 +1,18 @@
 //! Replies to a proposal, and what they decide.
 
 ghost use Rattle.std.specs.Prelude.{◌≡◌};
-ghost use Rattle.record.specs.Replies.{no_timestamps, fresh, with_timestamp, seat_of, awaited, all_replied, greatest, givers, decision};
+ghost use Rattle.record.specs.Replies.{with_timestamp, awaited, all_replied, greatest, givers, decision};
 
+pub use crate::replies::SEATS;
+
+use crate::replies::{NUMBERS, Replies};
 use schedule::{ControllerSet, Figures};
 
-/// How many controllers a group has at most.
-pub const SEATS: usize = 7;
-
-/// The timestamp that each controller replied, in the order of their numbers; 0 for none.
-#[derive(Clone, Copy)]
-pub struct Proposals {
-    pub timestamps: [u32; SEATS],
-}
+/// The timestamp that each controller replied.
+pub type Proposals = Replies<u32>;
 
 /// What the replies of a whole fast set decide.
-#[derive(Clone, Copy)]
+#[derive(Clone, Copy, PartialEq, Eq, Debug)]
 pub enum Decision {
     /// Commit this timestamp at once.
     Fast { timestamp: u32 },
@@ -23,100 +20,55 @@ pub enum Decision {
     Slow { timestamp: u32 },
 }
 
-/// The place of a controller in a table of replies.
-pub(crate) fn seat(controller: u32) -> Option<usize>
-    ensures { result ≡ seat_of controller }
-{
-    let place = controller as usize;
-    if place >= 1 && place <= SEATS {
-        Some(place - 1)
-    } else {
-        None
-    }
-}
-
 /// Whether a member of the set, controller j, has yet to reply.
-fn is_awaited(set: &ControllerSet, j: u32, timestamp: u32) -> bool
-    ensures { result ≡ awaited set.now.bits j timestamp }
+fn is_awaited(set: &ControllerSet, j: u32, reply: Option<u32>) -> bool
+    ensures { result ≡ awaited set.now.bits j reply }
 {
-    set.contains(j) && timestamp == 0
+    set.contains(j) && reply.is_none()
 }
 
-/// Whether every member of the set has replied.
-fn all_replied(timestamps: &[u32; SEATS], set: &ControllerSet) -> bool
-    ensures { result ≡ all_replied set.now.bits timestamps.now }
-{
-    for (i, t) in timestamps.iter().enumerate() {
-        if is_awaited(set, i as u32 + 1, *t) {
-            return false;
-        }
-    }
-    true
-}
-
-/// The greatest timestamp replied.
-fn greatest(timestamps: &[u32; SEATS]) -> u32
-    ensures { result ≡ greatest timestamps.now }
-{
-    let mut best = 0;
-    for t in timestamps {
-        best = best.max(*t);
-    }
-    best
-}
-
-/// How many replied this timestamp.
-fn givers(timestamps: &[u32; SEATS], timestamp: u32) -> u32
-    ensures { result ≡ givers timestamp timestamps.now }
-{
-    let mut n = 0;
-    for t in timestamps {
-        if *t == timestamp {
-            n += 1;
-        }
-    }
-    n
-}
-
-impl Proposals {
-    /// No replies.
-    pub fn none() -> Proposals
-        ensures { result.timestamps ≡ no_timestamps }
+impl Replies<u32> {
+    /// Notes the timestamp that a controller replied; 0 is no reply.
+    pub fn note_timestamp(&mut self, controller: u32, timestamp: u32)
+        ensures { self.new.replies ≡ with_timestamp self.old.replies controller timestamp }
     {
-        Proposals {
-            timestamps: [0; SEATS],
-        }
+        self.note(controller, (timestamp != 0).then_some(timestamp));
     }
 
-    /// Whether a controller has not replied yet. Nobody without a place is new.
-    pub fn is_new(&self, controller: u32) -> bool
-        ensures { result ≡ fresh self.now.timestamps controller }
+    /// Whether every member of the set has replied.
+    fn all_replied(&self, set: &ControllerSet) -> bool
+        ensures { result ≡ all_replied set.now.bits self.now.replies }
     {
-        match seat(controller) {
-            Some(i) => self.timestamps[i] == 0,
-            None => false,
-        }
+        NUMBERS
+            .zip(&self.replies)
+            .all(|(j, reply)| !is_awaited(set, j, *reply))
     }
 
-    /// Notes a controller's reply; one without a place is passed over.
-    pub fn note(&mut self, controller: u32, timestamp: u32)
-        ensures { self.new.timestamps ≡ with_timestamp self.old.timestamps controller timestamp }
+    /// The greatest timestamp replied.
+    fn greatest(&self) -> Option<u32>
+        ensures { result ≡ greatest self.now.replies }
     {
-        if let Some(i) = seat(controller) {
-            self.timestamps[i] = timestamp;
-        }
+        self.replies.iter().filter_map(|reply| *reply).max()
+    }
+
+    /// How many replied this.
+    fn givers(&self, reply: Option<u32>) -> u32
+        ensures { result ≡ givers reply self.now.replies }
+    {
+        self.replies.iter().filter(|given| **given == reply).count() as u32
     }
 
     /// What the replies decide, once all of the fast set have replied: the greatest timestamp,
     /// at once if at least f gave it.
     pub fn decision(&self, figures: &Figures, set: &ControllerSet) -> Option<Decision>
-        ensures { result ≡ decision figures.now.f set.now.bits self.now.timestamps }
+        ensures { result ≡ decision figures.now.f set.now.bits self.now.replies }
     {
-        if !all_replied(&self.timestamps, set) {
+        if !self.all_replied(set) {
             return None;
         }
-        let timestamp = greatest(&self.timestamps);
-        if givers(&self.timestamps, timestamp) >= figures.f {
+        let greatest = self.greatest();
+        let timestamp = greatest.unwrap_or(0);
+        if self.givers(greatest) >= figures.f {
             Some(Decision::Fast { timestamp })
         } else {
             Some(Decision::Slow { timestamp })

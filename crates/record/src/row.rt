@@ -11,7 +11,7 @@ use schedule::{Change, ControllerSet};
 
 /// What a controller keeps of a change. `promise` is its own promise, 0 for none; `accepted` is the ballot at which it
 /// accepted `timestamp`, 0 for none. A carried-out change has its place and outcome.
-#[derive(Clone, Copy)]
+#[derive(Clone, Copy, PartialEq, Eq, Debug)]
 pub struct Row {
     pub phase: Phase,
     pub change: Change,
@@ -34,14 +34,8 @@ impl Row {
     {
         Row {
             phase: Phase::Start,
-            change: Change {
-                department: 0,
-                kind: 0,
-                hour: 0,
-                slot: 0,
-                value: 0,
-            },
-            set: ControllerSet { bits: 0 },
+            change: Change::default(),
+            set: ControllerSet::default(),
             timestamp: 0,
             ballot: 0,
             accepted: 0,
