@@ -17,7 +17,7 @@ pub fn staged_decision() -> Option<Decision>
     ensures calls { StagedCalls }
 {
     let replies = Proposals {
-        timestamps: [6, 7, 11, 11, 0, 0, 0],
+        replies: [Some(6), Some(7), Some(11), Some(11), None, None, None],
     };
     replies.decision(&Figures { r: 5, f: 2 }, &ControllerSet { bits: 15 })
 }

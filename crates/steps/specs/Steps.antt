@@ -12,8 +12,8 @@ use Rattle.promise_words.specs.Clocks.{proposal, bumped}
 use Rattle.promise_words.specs.declared.clock.Clock.{Clock}
 use Rattle.promise_words.specs.declared.clock.ClockFault.{ClockFault}
 use Rattle.schedule.specs.Phases.{phase_number, phase_of, pending, settled}
-use Rattle.record.specs.Replies.{fresh, with_timestamp, decision, with_member, newcomer}
-use Rattle.record.specs.Choosing.{no_recoveries, unheard, with_recovery, heard, choice}
+use Rattle.record.specs.Replies.{no_replies, unheard, heard, with_timestamp, decision, with_member, newcomer}
+use Rattle.record.specs.Choosing.{with_recovery, choice}
 use Rattle.record.specs.Rows.{no_proposals, no_acks, in_phase, with_change, at_timestamp, at_ballots, with_promise, with_replies}
 use Rattle.schedule.specs.declared.phase.Phase.{Phase}
 use Rattle.schedule.specs.declared.phase.Phase.TheVariants.{Payload, Propose, RecoverR, RecoverP, Commit}
@@ -68,7 +68,7 @@ leading own t b w = with_replies w.proposals (record { from = record { bits = ju
 -- a reply to a proposal is noted
 abbrev pub with_proposal : ℕ → ℕ → Row → Row
 with_proposal c t w =
-    with_replies (record { timestamps = with_timestamp w.proposals.timestamps c t }) w.acks w.recoveries w
+    with_replies (record { replies = with_timestamp w.proposals.replies c t }) w.acks w.recoveries w
 
 -- an acceptance is noted
 abbrev pub with_ack : ℕ → Row → Row
@@ -110,7 +110,7 @@ decided r own id w clock (Some (Fast t)) = settling r own id t w clock
 decided r own id w clock (Some (Slow t)) = asking r own id t own w clock
 
 unfoldable pub gathered : ℕ → ℕ → ℕ → ℕ → Row → Clock → Left (Option Sent)
-gathered r f own id w clock = decided r own id w clock (decision f w.set.bits w.proposals.timestamps)
+gathered r f own id w clock = decided r own id w clock (decision f w.set.bits w.proposals.replies)
 
 -- after an acceptance: with f + 1 of them the timestamp is committed
 abbrev pub backed : ℕ → ℕ → ℕ → ℕ → Row → Clock → Left (Option Sent)
@@ -150,7 +150,7 @@ chosen r f own id b w clock =
 -- MRecAck: the reply is noted, under the phase that its number stands for
 abbrev pub replied : ℕ → ℕ → ℕ → ℕ → ℕ → ℕ → ℕ → ℕ → Row → Clock → Option Phase → Result (Left (Option Sent)) Refusal
 replied r f own s id t a b w clock (Some p) =
-    Ok (chosen r f own id b (with_heard s (record { given = true; timestamp = t; phase = p; accepted = a }) w) clock)
+    Ok (chosen r f own id b (with_heard s (record { timestamp = t; phase = p; accepted = a }) w) clock)
 replied r f own s id t a b w clock None = Err OutOfStep
 
 -- the commit of a settled change, for one that still asks
@@ -159,7 +159,7 @@ told_commit own s id w = Some (to_one s (MCommit own id w.timestamp))
 
 -- A reply to the proposal counts: at the home, from a member of the fast set that has not replied.
 abbrev pub counts_proposal : ℕ → ℕ → ℕ → ℕ → Row → Bool
-counts_proposal r own id s w = at_home r own id && member w.set.bits s && fresh w.proposals.timestamps s
+counts_proposal r own id s w = at_home r own id && member w.set.bits s && unheard w.proposals.replies s
 
 -- An acceptance at ballot b counts: b was accepted here and belongs here, and the sender has not accepted before.
 abbrev pub counts_ack : ℕ → ℕ → ℕ → ℕ → Row → Bool
@@ -210,12 +210,12 @@ entering own c set w clock = begun own (offered c set (clock.time + 1) w clock)
 
 -- Take over: the next ballot that belongs here is joined, earlier replies are dropped, and the own reply is the first.
 abbrev pub own_reply : Row → Recovery
-own_reply w = record { given = true; timestamp = w.timestamp; phase = w.phase; accepted = w.accepted }
+own_reply w = record { timestamp = w.timestamp; phase = w.phase; accepted = w.accepted }
 
 abbrev pub taken : ℕ → ℕ → Result (Left (Unit {0})) ClockFault → Result (Left ℕ) Refusal
 taken own b (Ok done) =
     let w : Row = done.row in
-    Ok (left (with_replies no_proposals no_acks (record { replies = with_recovery no_recoveries own (own_reply w) }) w) done.clock b)
+    Ok (left (with_replies no_proposals no_acks (record { replies = with_recovery no_replies own (own_reply w) }) w) done.clock b)
 taken own b (Err fault) = Err (TimestampsSpent fault)
 
 abbrev pub taken_at : ℕ → Row → Clock → Option ℕ → Result (Left ℕ) Refusal

@@ -23,6 +23,6 @@ pub fn begin(
     let least = clock.time.saturating_add(1);
     let mut turn = Turn { site, row, clock };
     let t = turn.propose(change, set, least)?;
-    turn.row.proposals.note(site.own, t);
+    turn.row.proposals.note_timestamp(site.own, t);
     Ok(t)
 }

@@ -1,6 +1,8 @@
 //! The step on one record: by its phase and the message together.
 
-ghost use Rattle.std.specs.Prelude.{◌≡◌, Some};
+ghost use Rattle.std.specs.Prelude.{◌≡◌, Some, ok_or};
+ghost use Rattle.schedule.specs.Phases.{phase_of};
+ghost use Rattle.sites.specs.declared.refusal.Refusal.TheVariants.{OutOfStep};
 ghost use Rattle.record.specs.Replies.{decision};
 ghost use Rattle.steps.specs.Steps.{Settled, with_proposal, settling, asking, decided, gathered, with_ack, backed, joining, rejoined, with_heard, chosen, followed, told_commit, offered, proposed, counts_proposal, counts_ack, counts_recovery, step};
 ghost use Rattle.steps.specs.Turns.{Gives, Tries, handed_out};
@@ -78,13 +80,13 @@ impl Turn<'_> {
     fn gather(&mut self, id: u32, from: u32, timestamp: u32) -> Option<Sent>
         ensures { Gives (gathered self.old.site.now.figures.r self.old.site.now.figures.f self.old.site.now.own id (with_proposal from timestamp self.old.row.now) self.old.clock.now) self.old result self.new }
     {
-        self.row.proposals.note(from, timestamp);
+        self.row.proposals.note_timestamp(from, timestamp);
         self.decide(id)
     }
 
     /// After a reply to the proposal: the fast decision, the slow one, or none yet.
     fn decide(&mut self, id: u32) -> Option<Sent>
-        ensures { Gives (decided self.old.site.now.figures.r self.old.site.now.own id self.old.row.now self.old.clock.now (decision self.old.site.now.figures.f self.old.row.now.set.bits self.old.row.now.proposals.timestamps)) self.old result self.new }
+        ensures { Gives (decided self.old.site.now.figures.r self.old.site.now.own id self.old.row.now self.old.clock.now (decision self.old.site.now.figures.f self.old.row.now.set.bits self.old.row.now.proposals.replies)) self.old result self.new }
     {
         let row = &*self.row;
         match row.proposals.decision(&self.site.figures, &row.set)? {
@@ -172,7 +174,7 @@ impl Turn<'_> {
     fn hear(&mut self, id: u32, from: u32, ballot: u32, told: Recovery) -> Option<Sent>
         ensures { Gives (chosen self.old.site.now.figures.r self.old.site.now.figures.f self.old.site.now.own id ballot (with_heard from told self.old.row.now) self.old.clock.now) self.old result self.new }
     {
-        self.row.recoveries.note(from, told);
+        self.row.recoveries.note(from, Some(told));
         if self.row.recoveries.count() < self.site.figures.takeover_quorum() {
             return None;
         }
@@ -180,6 +182,13 @@ impl Turn<'_> {
         let timestamp = row.recoveries.choice(self.site.home(id), &row.set);
         Some(self.lead(id, timestamp, ballot))
     }
+}
+
+/// The phase that a number stands for.
+fn phase_of(number: u32) -> Result<Phase, Refusal>
+    ensures { result ≡ ok_or (phase_of number) OutOfStep }
+{
+    Phase::try_from(number).map_err(|_| Refusal::OutOfStep)
 }
 
 /// What a message does to the record of its change and to the clock, and the message that it hands out.
@@ -193,6 +202,7 @@ pub fn step(
 {
     let pending = row.phase.is_pending();
     let mut turn = Turn { site, row, clock };
+    // kept: one match, longer than other functions: in parts by message, no part would show which arm comes first
     match (message, turn.row.phase) {
         (Message::MPayload { change, set, .. }, Phase::Start) if !set.contains(site.own) => {
             turn.keep(change, set);
@@ -263,9 +273,8 @@ pub fn step(
             _,
         ) if pending && turn.row.ballot == *ballot && turn.counts_recovery(*ballot, *sender) => {
             let told = Recovery {
-                given: true,
                 timestamp: *timestamp,
-                phase: Phase::try_from(*phase).map_err(|_| Refusal::OutOfStep)?,
+                phase: phase_of(*phase)?,
                 accepted: *accepted,
             };
             Ok(turn.hear(*id, *sender, *ballot, told))

@@ -20,7 +20,6 @@ pub fn take_over(site: &Site, row: &mut Row, clock: &mut Clock) -> Result<u32, R
     let mut turn = Turn { site, row, clock };
     turn.join(ballot)?;
     let own = Recovery {
-        given: true,
         timestamp: turn.row.timestamp,
         phase: turn.row.phase,
         accepted: turn.row.accepted,
@@ -28,6 +27,6 @@ pub fn take_over(site: &Site, row: &mut Row, clock: &mut Clock) -> Result<u32, R
     turn.row.proposals = Proposals::none();
     turn.row.acks = Acks::none();
     turn.row.recoveries = Recoveries::none();
-    turn.row.recoveries.note(site.own, own);
+    turn.row.recoveries.note(site.own, Some(own));
     Ok(ballot)
 }

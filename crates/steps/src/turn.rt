@@ -11,6 +11,7 @@ use schedule::{Change, ControllerSet};
 use sites::site::Site;
 
 /// The record of a change and the clock, at a site.
+// kept: without the number of the change, which an entry and a take-over do not take
 #[derive(Drop)]
 pub(crate) struct Turn<'a> {
     pub(crate) site: &'a Site,

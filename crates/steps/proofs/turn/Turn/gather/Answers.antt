@@ -3,4 +3,4 @@ use Rattle.steps.proofs.turn.Turn.gather.Goals as goal
 
 pub returns : goal.returns
 unfolding gathered
-returns c = rw (← c.note.ensures) c.decide.ensures
+returns c = rw (← c.note_timestamp.ensures) c.decide.ensures
