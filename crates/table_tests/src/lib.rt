@@ -32,6 +32,10 @@ mod tests {
         rows
     }
 
+    fn pair(id: u32, timestamp: u32) -> Pair {
+        Pair { id, timestamp }
+    }
+
     #[test]
     fn changes_are_due_by_their_timestamps_and_once(rt: HostRuntime) {
         let mut rows = two_committed();
@@ -43,8 +47,7 @@ mod tests {
         assert_eq!(rt; rows.due(2), None);
         assert_eq!(rt; rows.carried(), 2);
         assert_eq!(rt; rows.rows[64].place, 1);
-        assert_eq!(rt; rows.rows[64].outcome.0, 8);
-        assert_eq!(rt; rows.rows[64].outcome.1, 9);
+        assert_eq!(rt; rows.rows[64].outcome, (8, 9));
     }
 
     #[test]
@@ -62,27 +65,9 @@ mod tests {
         let told = two_promised().told(&detached);
         assert_eq!(rt; told.detached[0], 4);
         assert_eq!(rt; told.count, 2);
-        assert_eq!(rt;
-            told.pairs[0],
-            Pair {
-                id: 1,
-                timestamp: 5,
-            }
-        );
-        assert_eq!(rt;
-            told.pairs[1],
-            Pair {
-                id: 65,
-                timestamp: 4,
-            }
-        );
-        assert_eq!(rt;
-            told.pairs[2],
-            Pair {
-                id: 0,
-                timestamp: 0,
-            }
-        );
+        assert_eq!(rt; told.pairs[0], pair(1, 5));
+        assert_eq!(rt; told.pairs[1], pair(65, 4));
+        assert_eq!(rt; told.pairs[2], pair(0, 0));
     }
 
     #[test]

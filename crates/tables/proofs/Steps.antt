@@ -1,5 +1,5 @@
--- Steps of the loops over the records and the pairs, one place on.
-use Rattle.std.proofs.Common.{◌≡◌, ℕ, ◌+◌, ◌-◌, ◌<◌, ◌≤◌, min, true, false, cond, eqb, ltb, List, ◌∷◌, ◌++◌, length, get_or, take, drop, set, sym, ap, ◌∙◌, ap₂, ⊎_elim, add-one, arith}
+-- The entries of the search, and steps of the loops over the records and the pairs, one place on.
+use Rattle.std.proofs.Common.{◌≡◌, ℕ, suc, ◌+◌, ◌<◌, ◌≤◌, true, false, cond, eqb, List, [], ◌∷◌, ◌++◌, length, get_or, take, drop, set, None, Option, sym, refl, ap, ◌∙◌, ap₂, add-one, arith}
 use Rattle.std.proofs.lemmas.List.{at_drop_more, at_drop_all, take_more_set, take_all, append_assoc, append-nil, length-take-le, drop-set-lt, drop-drop, get_or_past, take-append-drop}
 use Rattle.std.proofs.lemmas.Bool.{and_left, and_right, cond-true, cond-false, lt-leb, ltb-false, cases_lt}
 use Rattle.line_format.specs.declared.message.Pair.{Pair}
@@ -11,7 +11,7 @@ use Rattle.record.specs.declared.row.Row.{Row}
 use Rattle.tables.specs.Tables.{pairs_from, own_promises, settled_at, with_pair, with_pairs, due_entry, due_from}
 
 -- the list that has at each place the entry of the record there
-pub due_is : (s id : ℕ) (es : List (Option Due)) (ws : List Row) → length es ≡ length ws → ((k : ℕ) (d : Option Due) → k < length es → get_or es k d ≡ due_entry s (id + k) (get_or ws k blank)) → es ≡ due_from s id ws
+pub due_is : (s id : ℕ) (es : List (Option Due)) (ws : List Row) → length es ≡ length ws → ((k : ℕ) (d : Option Due) → k < length es → get_or es k d ≡ due_entry s (k + id) (get_or ws k blank)) → es ≡ due_from s id ws
 due_is s id [] [] l each = refl
 due_is s id [] (w ∷ ws) l each = absurd (omega arith)
 due_is s id (e ∷ es) [] l each = absurd (omega arith)
@@ -57,22 +57,6 @@ pub table_all : (ps qs : List Pair) (ws : List Row) (n : ℕ) → n ≤ length p
 table_all ps qs ws n l e f =
     sym (take-append-drop n ps) ∙ ap₂ (λ (a b : List Pair). a ++ b) e f ∙ ap (λ (m : ℕ). own_promises ws ++ drop m qs) (count_all ps ws n l e)
 
--- a number that no change has
-pub zero_unsettled : (ws : List Row) (id : ℕ) → id < 1 → false ≡ settled_at ws id
-zero_unsettled ws id l = sym (and_left _ _ (lt-leb 1 id l))
-
-pub past_unsettled : (ws : List Row) (id : ℕ) → false ≡ ltb (id - 1) (length ws) → false ≡ settled_at ws id
-past_unsettled ws id e =
-    sym (and_right _ _ (ap (λ (w : Row). settled w.phase) (get_or_past ws (id - 1) blank (ltb-false (id - 1) (length ws) (sym e)))))
-
 -- one more pair looked at
 pub learn_more : (ws : List Row) (known next : List ℕ) (ps : List Pair) (i : ℕ) → i < length ps → next ≡ with_pair ws known (get_or ps i no_pair) → with_pairs ws next (drop (i + 1) ps) ≡ with_pairs ws known (drop i ps)
 learn_more ws known next ps i l e = ap (λ (k : List ℕ). with_pairs ws k (drop (i + 1) ps)) e ∙ sym (at_drop_more (with_pairs ws known) ps i no_pair l)
-
--- a count past the table's end takes all of it
-pub take_within : (ps : List Pair) (n : ℕ) → take (min (length ps) n) ps ≡ take n ps
-take_within ps n =
-    ⊎_elim
-    (λ (l : n < length ps). ap (λ (k : ℕ). take k ps) (omega arith))
-    (λ (l : length ps ≤ n). take_all (min (length ps) n) ps (omega arith) ∙ sym (take_all n ps l))
-    (cases_lt n (length ps))

@@ -1,7 +1,7 @@
 //! The change that is due, and its record once it is carried out.
 
 ghost use Rattle.std.specs.Prelude.{◌≡◌};
-ghost use Rattle.tables.specs.Tables.{due_entry, due_from, due, is_carried, carried_count, finished};
+ghost use Rattle.tables.specs.Tables.{due_at, due_from, due, is_carried, carried_count, finished};
 
 use crate::rows::Rows;
 use line_format::message::PAIRS;
@@ -9,11 +9,13 @@ use ranking::{Due, first_in_rank};
 use record::{Phase, Row};
 use std::array;
 
-/// A record as an entry of the search for the change that is due, if it is committed and not above `stable`.
-fn due_entry(row: &Row, id: u32, stable: u32) -> Option<Due>
-    ensures { result ≡ due_entry stable id row.now }
+/// The record at a place as an entry of the search for the change that is due, if it is committed and not above `stable`.
+fn due_at(rows: &[Row; PAIRS], place: usize, stable: u32) -> Option<Due>
+    ensures { result ≡ due_at stable rows.now place }
 {
+    let row = rows.get(place)?;
     let timestamp = row.timestamp;
+    let id = place as u32 + 1;
     (row.phase == Phase::Commit && timestamp <= stable).then_some(Due { timestamp, id })
 }
 
@@ -21,7 +23,7 @@ fn due_entry(row: &Row, id: u32, stable: u32) -> Option<Due>
 fn due_entries(rows: &[Row; PAIRS], stable: u32) -> [Option<Due>; PAIRS]
     ensures { result ≡ due_from stable 1 rows.now }
 {
-    array::from_fn(|i| due_entry(&rows[i], i as u32 + 1, stable))
+    array::from_fn(|place| due_at(rows, place, stable))
 }
 
 /// Whether the change of a record was carried out.

@@ -7,7 +7,7 @@ use line_format::message::PAIRS;
 use record::Row;
 
 /// A record for each number of a change: that of change n stands at n - 1.
-#[derive(Clone, Copy)]
+#[derive(Clone, Copy, PartialEq, Eq, Debug)]
 pub struct Rows {
     pub rows: [Row; PAIRS],
 }
