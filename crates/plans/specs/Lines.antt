@@ -3,6 +3,7 @@ use Rattle.std.specs.Prelude.{◌≡◌, ℕ, zero, suc, ◌^◌, ◌<◌, Bool,
 use Rattle.std.specs.Str.Parse.{without_leading_plus, digits_value}
 use Rattle.std.specs.Char.{is_whitespace, is_not_whitespace}
 use Rattle.std.specs.Str.{NoCharPasses, EmptyOrStartsWithPassing, bytes_eq, all_ascii_digits}
+use denote.Ref.{Bor}
 use Rattle.schedule.specs.Changes.{department_number, kind_number}
 use Rattle.schedule.specs.declared.change.Change.{Change}
 use Rattle.schedule.specs.declared.change.Department.TheVariants.{Sales, Programming}
@@ -26,6 +27,12 @@ abbrev pub FirstWords : ℕ → List ℕ → List (List ℕ) → Type 0
 FirstWords zero bs words = words ≡ []
 FirstWords (suc n) bs [] = NoCharPasses is_not_whitespace bs
 FirstWords (suc n) bs (w ∷ words) = (rest : List ℕ) × First bs w rest × FirstWords n rest words
+
+-- the words that calls of `next` found, up to the first that found none
+abbrev pub found : List (Option (Bor (List ℕ))) → List (List ℕ)
+found [] = []
+found (None ∷ nexts) = []
+found (Some w ∷ nexts) = w.now ∷ found nexts
 
 abbrev pub some_digits : List ℕ → Bool
 some_digits [] = false

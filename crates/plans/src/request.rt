@@ -1,7 +1,7 @@
 //! What a line of a plan asks for.
 
 ghost use Rattle.std.specs.Prelude.{◌≡◌, ℕ, List, [], ◌∷◌};
-ghost use Rattle.plans.specs.Lines.{FirstWords, asked_by, change_named, place_named};
+ghost use Rattle.plans.specs.Lines.{FirstWords, asked_by, found, change_named, place_named};
 
 use crate::words::{department, kind, number};
 use schedule::Change;
@@ -61,24 +61,26 @@ pub fn asked(line: &str) -> Result<Request, Misread>
     ensures { (words : List (List ℕ)) × FirstWords 6 line.now words × (result ≡ asked_by words) }
 {
     let mut words = line.split_whitespace();
-    let Some(first) = words.next() else {
-        return Err(Misread::OtherWords);
-    };
-    let Some(second) = words.next() else {
-        return Err(Misread::OtherWords);
-    };
-    let Some(third) = words.next() else {
-        return Err(Misread::OtherWords);
-    };
-    let Some(fourth) = words.next() else {
-        return reading_of(first, second, third);
-    };
-    let Some(fifth) = words.next() else {
-        return Err(Misread::OtherWords);
-    };
-    match words.next() {
-        Some(_sixth) => Err(Misread::OtherWords),
-        None => carrying_of(first, second, third, fourth, fifth),
+    asked_of([
+        words.next(),
+        words.next(),
+        words.next(),
+        words.next(),
+        words.next(),
+        words.next(),
+    ])
+}
+
+/// What the first six words ask for, where `None` stands after the last.
+fn asked_of(words: [Option<&str>; 6]) -> Result<Request, Misread>
+    ensures { result ≡ asked_by (found words.entry) }
+{
+    match words {
+        [Some(read), Some(hour), Some(slot), None, ..] => reading_of(read, hour, slot),
+        [Some(of), Some(to_do), Some(hour), Some(slot), Some(value), None] => {
+            carrying_of(of, to_do, hour, slot, value)
+        }
+        _ => Err(Misread::OtherWords),
     }
 }
 
