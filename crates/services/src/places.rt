@@ -61,9 +61,9 @@ impl Places {
         match judge(change, held, total) {
             Ok(value) => {
                 self.put(change.hour, change.slot, value);
-                (Answer::Done.number(), held)
+                (Answer::Done.into(), held)
             }
-            Err((answer, told)) => (answer.number(), told),
+            Err((answer, told)) => (answer.into(), told),
         }
     }
 }

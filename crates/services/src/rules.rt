@@ -14,7 +14,7 @@ pub(crate) fn asks(change: &Change) -> Option<Kind>
     ensures { result ≡ asked change.now }
 {
     if change.fits() {
-        Kind::of(change.kind)
+        Kind::try_from(change.kind).ok()
     } else {
         None
     }

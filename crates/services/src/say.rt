@@ -32,14 +32,14 @@ pub enum SayRuling {
 fn number_of(say: Option<Department>) -> u32
     ensures { result ≡ say_number say }
 {
-    say.map_or(0, |department| department.number())
+    say.map_or(0, u32::from)
 }
 
 /// What is decided where the hour's say is with the given holder. The first line that fits decides.
 fn judge_say(change: &Change, holder: Option<Department>) -> SayRuling
     ensures { result ≡ say_judged change.now (say_number holder) }
 {
-    let asking = Department::of(change.department);
+    let asking = Department::try_from(change.department).ok();
     let told = number_of(holder);
     match asks(change) {
         None => SayRuling::Refused(Answer::OutsideLimits, 0),
@@ -119,9 +119,9 @@ impl<S: Service> Service for FinalSay<S> {
             SayRuling::Below => self.below.carry_out(change),
             SayRuling::Becomes(say, told) => {
                 self.give(change.hour, say);
-                (Answer::Done.number(), told)
+                (Answer::Done.into(), told)
             }
-            SayRuling::Refused(answer, told) => (answer.number(), told),
+            SayRuling::Refused(answer, told) => (answer.into(), told),
         }
     }
 
