@@ -1,6 +1,6 @@
 //! What a line of a plan asks for.
 
-ghost use Rattle.std.specs.Prelude.{◌≡◌, ℕ, List, [], ◌∷◌};
+ghost use Rattle.std.specs.Prelude.{◌≡◌, ℕ, List};
 ghost use Rattle.plans.specs.Lines.{FirstWords, asked_by, found, change_named, place_named};
 
 use crate::words::{department, kind, number};
@@ -76,38 +76,18 @@ fn asked_of(words: [Option<&str>; 6]) -> Result<Request, Misread>
     ensures { result ≡ asked_by (found words.entry) }
 {
     match words {
-        [Some(read), Some(hour), Some(slot), None, ..] => reading_of(read, hour, slot),
+        [Some(word), Some(hour), Some(slot), None, ..] => {
+            if word != "read" {
+                return Err(Misread::OtherWords);
+            }
+            let (hour, slot) = place_of(hour, slot)?;
+            Ok(Request::Reading(hour, slot))
+        }
         [Some(of), Some(to_do), Some(hour), Some(slot), Some(value), None] => {
-            carrying_of(of, to_do, hour, slot, value)
+            Ok(Request::Carrying(change_of(of, to_do, hour, slot, value)?))
         }
         _ => Err(Misread::OtherWords),
     }
-}
-
-/// Three words ask for a reading if the first is `read`.
-fn reading_of(read: &str, hour: &str, slot: &str) -> Result<Request, Misread>
-    ensures { result ≡ asked_by (read.now ∷ (hour.now ∷ (slot.now ∷ []))) }
-{
-    match read {
-        "read" => {
-            let place = place_of(hour, slot)?;
-            Ok(Request::Reading(place.0, place.1))
-        }
-        _ => Err(Misread::OtherWords),
-    }
-}
-
-/// Five words ask for a change.
-fn carrying_of(
-    of: &str,
-    to_do: &str,
-    hour: &str,
-    slot: &str,
-    value: &str,
-) -> Result<Request, Misread>
-    ensures { result ≡ asked_by (of.now ∷ (to_do.now ∷ (hour.now ∷ (slot.now ∷ (value.now ∷ []))))) }
-{
-    Ok(Request::Carrying(change_of(of, to_do, hour, slot, value)?))
 }
 
 impl fmt::Display for Misread {
