@@ -1,5 +1,5 @@
 -- The staged calls compute.
-use Rattle.std.proofs.Common.{ℕ, ◌+◌, ◌*◌, ◌≤◌, sym, refl, subst}
+use Rattle.std.proofs.Common.{rules, ℕ, ◌+◌, ◌*◌, ◌≤◌, sym, subst}
 use lib.Count.{ones, ones_in}
 use Rattle.promise_words.specs.Runs.{run_past, unbroken}
 use Rattle.promise_words.specs.Timestamps.{no_words}
@@ -24,30 +24,7 @@ module _ (least : 3 ≤ 3) (most : 3 ≤ 7) (some : 1 ≤ 1) (spare : 2 * 1 + 1 
 
   begun : CallsOf core
   unfolding ones ones_in no_words unbroken run_past blank_rows
-  begun =
-      record {
-        short_buffer = refl;
-        no_such_hour = refl;
-        home_not_in_set = refl;
-        all_entered = refl;
-        first_number = refl;
-        messages = refl;
-        places = refl;
-        second_number = refl;
-        no_message = refl;
-        no_such_sender = refl;
-        from_itself = refl;
-        not_from_home = refl;
-        not_from_owner = refl;
-        nothing_to_commit = refl;
-        payload = refl;
-        no_such_change = refl;
-        nothing_known = refl;
-        next_ballot = refl;
-        told = refl;
-        told_to = refl;
-        nothing_due = refl;
-      }
+  begun = search rules
 
 pub called : StagedCalls
 called site e g h =

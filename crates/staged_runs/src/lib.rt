@@ -11,6 +11,7 @@ use schedule::{ControllerSet, Figures};
 
 /// What five controllers, two of which may be silent, decide on the replies 6, 7, 11 and 11. The runs that are staged
 /// from this one on stand in `StagedRuns`, single calls in `StagedCalls`.
+#[tactic(auto, unfolding(steps::specs::Steps::gathered, promise_words::specs::Timestamps::no_words, promise_words::specs::Runs::unbroken, promise_words::specs::Runs::run_past))]
 pub fn staged_decision() -> Option<Decision>
     ensures value { result ≡ Some (Fast 11) }
     ensures runs { StagedRuns }
