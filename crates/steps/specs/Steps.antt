@@ -1,22 +1,22 @@
 -- The steps: what a message, an entry and a take-over do to the record of a change and to the clock, at controller
 -- `own` of a group of r, of which f may be silent.
 use Prim.{tt}
-use Rattle.std.specs.Prelude.{◌≡◌, ℕ, ◌+◌, Bool, true, cond, not, ◌&&◌, Some, None, Ok, Err, Option, Result, ◌==◌, nat_le, nat_lt}
+use Rattle.std.specs.Prelude.{◌≡◌, ℕ, ◌+◌, Bool, cond, not, ◌&&◌, Some, None, Ok, Err, Option, Result, ◌==◌, nat_le, nat_lt}
 use Rattle.schedule.specs.Group.{slow_quorum, takeover_quorum}
+use Rattle.schedule.specs.Phases.{phase_number, phase_of, pending, settled}
 use Rattle.schedule.specs.Sets.{size, member}
 use Rattle.schedule.specs.declared.change.Change.{Change}
+use Rattle.schedule.specs.declared.phase.Phase.{Phase}
+use Rattle.schedule.specs.declared.phase.Phase.TheVariants.{Payload, Propose, RecoverR, RecoverP, Commit}
 use Rattle.schedule.specs.declared.set.ControllerSet.{ControllerSet}
 use Rattle.line_format.specs.declared.message.Message.{Message}
 use Rattle.line_format.specs.declared.message.Message.TheVariants.{MPayload, MPropose, MProposeAck, MCommit, MConsensus, MConsensusAck, MRec, MRecAck, MPromises}
 use Rattle.promise_words.specs.Clocks.{proposal, bumped}
 use Rattle.promise_words.specs.declared.clock.Clock.{Clock}
 use Rattle.promise_words.specs.declared.clock.ClockFault.{ClockFault}
-use Rattle.schedule.specs.Phases.{phase_number, phase_of, pending, settled}
 use Rattle.record.specs.Replies.{no_replies, unheard, heard, with_timestamp, decision, with_member, newcomer}
 use Rattle.record.specs.Choosing.{with_recovery, choice}
 use Rattle.record.specs.Rows.{no_proposals, no_acks, in_phase, with_change, at_timestamp, at_ballots, with_promise, with_replies}
-use Rattle.schedule.specs.declared.phase.Phase.{Phase}
-use Rattle.schedule.specs.declared.phase.Phase.TheVariants.{Payload, Propose, RecoverR, RecoverP, Commit}
 use Rattle.record.specs.declared.proposals.Decision.{Decision}
 use Rattle.record.specs.declared.proposals.Decision.TheVariants.{Fast, Slow}
 use Rattle.record.specs.declared.recoveries.Recovery.{Recovery}
