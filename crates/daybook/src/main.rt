@@ -13,17 +13,14 @@ use told::{HourAccount, Told, outcome_name};
 
 fn main(rt: HostRuntime) -> io::Result<()> {
     let mut day = None;
-    let mut number = 0u64;
-    for line in BufReader::new(rt.alloc(), rt.stdin())?.lines(rt.alloc()) {
-        number = number.saturating_add(1);
+    let lines = BufReader::new(rt.alloc(), rt.stdin())?.lines(rt.alloc());
+    for (number, line) in (1..=u64::MAX).zip(lines) {
         match line {
             Ok(text) => take_line(&rt, &mut day, number, text.as_str().trim())?,
-            Err(error) => {
-                if error.kind() != io::ErrorKind::InvalidData {
-                    return Err(error);
-                }
-                refuse(&rt, number, Misread::NoText)?;
+            Err(error) if error.kind() == io::ErrorKind::InvalidData => {
+                refuse(&rt, number, Misread::NoText)?
             }
+            Err(error) => return Err(error),
         }
     }
     match day {
@@ -71,19 +68,13 @@ fn reply(rt: &HostRuntime, number: u64, reply: Reply) -> io::Result<()> {
 /// Each hour in use, then how many changes had each outcome.
 fn account(rt: &HostRuntime, day: &Day) -> io::Result<()> {
     println!(rt; "\nThe day")?;
-    let mut empty = true;
-    for hour in 0..HOURS {
-        if day.book.in_use(hour) {
-            empty = false;
-            let told = HourAccount {
-                book: &day.book,
-                hour,
-            };
-            println!(rt; "{told}")?;
-        }
-    }
-    if empty {
+    let book = &day.book;
+    if !(0..HOURS).any(|hour| book.in_use(hour)) {
         println!(rt; "no hour is in use")?;
+    }
+    for hour in (0..HOURS).filter(|hour| book.in_use(*hour)) {
+        let told = HourAccount { book, hour };
+        println!(rt; "{told}")?;
     }
     println!(rt; "\nChanges by outcome")?;
     for outcome in 0..OUTCOMES {

@@ -13,9 +13,9 @@ pub struct Told {
     pub outcome: (u32, u32),
 }
 
-/// Who has the say: 0 nobody, else the department.
+/// Who has the say, if anybody has.
 #[derive(Clone, Copy)]
-pub struct Who(pub u32);
+struct Who(Option<Department>);
 
 /// Why a number is outside its limits, or that the service has no such kind.
 #[derive(Clone, Copy)]
@@ -28,22 +28,25 @@ pub struct HourAccount<'a> {
     pub hour: u32,
 }
 
+/// Who a number stands for: 0 for nobody, else the department.
+impl From<u32> for Who {
+    fn from(number: u32) -> Who {
+        Who(Department::try_from(number).ok())
+    }
+}
+
 impl fmt::Display for Who {
     fn fmt<W: fmt::Write>(&self, f: &mut fmt::Formatter<W>) -> fmt::Result {
-        f.write_str(match Department::of(self.0) {
-            Some(Department::Sales) => "sales",
-            Some(Department::Programming) => "programming",
-            None => "nobody",
-        })
+        f.write_str(self.0.map_or("nobody", |department| department.name()))
     }
 }
 
 impl fmt::Display for Outside {
     fn fmt<W: fmt::Write>(&self, f: &mut fmt::Formatter<W>) -> fmt::Result {
         let change = self.0;
-        if Department::of(change.department).is_none() {
+        if Department::try_from(change.department).is_err() {
             write!(f, "there is no department {}", change.department)
-        } else if Kind::of(change.kind).is_none() {
+        } else if Kind::try_from(change.kind).is_err() {
             write!(f, "there is no kind {}", change.kind)
         } else if change.hour >= HOURS {
             write!(f, "the hours are 0 to {}", HOURS - 1)
@@ -60,24 +63,25 @@ impl fmt::Display for Outside {
 impl fmt::Display for Told {
     fn fmt<W: fmt::Write>(&self, f: &mut fmt::Formatter<W>) -> fmt::Result {
         let (first, second) = self.outcome;
-        let who = Who(second);
+        let who = Who::from(second);
         let outside = Outside(self.change);
-        match Answer::of(first) {
-            Some(Answer::Done) => done(f, &self.change, second),
-            Some(Answer::Occupied) => write!(f, "refused: the place holds {second}"),
-            Some(Answer::Empty) => f.write_str("refused: the place is empty"),
-            Some(Answer::NoValue) => write!(
+        match Answer::try_from(first) {
+            Ok(Answer::Done) => done(f, &self.change, second),
+            Ok(Answer::Occupied) => write!(f, "refused: the place holds {second}"),
+            Ok(Answer::Empty) => f.write_str("refused: the place is empty"),
+            Ok(Answer::NoValue) => write!(
                 f,
                 "refused: 0 is nothing to put; the place holds {second}"
             ),
-            Some(Answer::HourFull) => write!(
+            Ok(Answer::HourFull) => write!(
                 f,
                 "refused: the hour would pass {HOUR_SECONDS} seconds; the place holds {second}"
             ),
-            Some(Answer::NotHolder) => write!(f, "refused: {who} has the say of the hour"),
-            Some(Answer::OthersSay) => write!(f, "refused: {who} has the say of the hour"),
-            Some(Answer::OutsideLimits) => write!(f, "refused: {outside}"),
-            None => f.write_str("an answer without a name"),
+            Ok(Answer::NotHolder | Answer::OthersSay) => {
+                write!(f, "refused: {who} has the say of the hour")
+            }
+            Ok(Answer::OutsideLimits) => write!(f, "refused: {outside}"),
+            Err(_) => f.write_str("an answer without a name"),
         }
     }
 }
@@ -85,33 +89,33 @@ impl fmt::Display for Told {
 /// What a change did that was carried out.
 fn done<W: fmt::Write>(f: &mut fmt::Formatter<W>, change: &Change, second: u32) -> fmt::Result {
     let value = change.value;
-    let who = Who(change.department);
-    match Kind::of(change.kind) {
-        Some(Kind::Put) => write!(f, "done: the place was empty and holds {value}"),
-        Some(Kind::Clear) => write!(f, "done: the place held {second} and is empty"),
-        Some(Kind::Replace) => write!(f, "done: the place held {second} and holds {value}"),
-        Some(Kind::Claim) if second == 0 => write!(
+    let who = Who::from(change.department);
+    match Kind::try_from(change.kind) {
+        Ok(Kind::Put) => write!(f, "done: the place was empty and holds {value}"),
+        Ok(Kind::Clear) => write!(f, "done: the place held {second} and is empty"),
+        Ok(Kind::Replace) => write!(f, "done: the place held {second} and holds {value}"),
+        Ok(Kind::Claim) if second == 0 => write!(
             f,
             "done: nobody had the say of the hour, {who} has it now"
         ),
-        Some(Kind::Claim) => write!(f, "done: {who} had the say of the hour already"),
-        Some(Kind::Yield) => write!(f, "done: {who} had the say of the hour, nobody has it now"),
-        None => f.write_str("done"),
+        Ok(Kind::Claim) => write!(f, "done: {who} had the say of the hour already"),
+        Ok(Kind::Yield) => write!(f, "done: {who} had the say of the hour, nobody has it now"),
+        Err(_) => f.write_str("done"),
     }
 }
 
 /// A short name for the first number of an outcome.
 pub(crate) fn outcome_name(number: u32) -> &'static str {
-    match Answer::of(number) {
-        Some(Answer::Done) => "done",
-        Some(Answer::Occupied) => "refused, the place was taken",
-        Some(Answer::Empty) => "refused, the place was empty",
-        Some(Answer::NoValue) => "refused, nothing to put",
-        Some(Answer::HourFull) => "refused, the hour was full",
-        Some(Answer::NotHolder) => "refused, not the holder's yield",
-        Some(Answer::OthersSay) => "refused, the other has the say",
-        Some(Answer::OutsideLimits) => "refused, outside the limits",
-        None => "an answer without a name",
+    match Answer::try_from(number) {
+        Ok(Answer::Done) => "done",
+        Ok(Answer::Occupied) => "refused, the place was taken",
+        Ok(Answer::Empty) => "refused, the place was empty",
+        Ok(Answer::NoValue) => "refused, nothing to put",
+        Ok(Answer::HourFull) => "refused, the hour was full",
+        Ok(Answer::NotHolder) => "refused, not the holder's yield",
+        Ok(Answer::OthersSay) => "refused, the other has the say",
+        Ok(Answer::OutsideLimits) => "refused, outside the limits",
+        Err(_) => "an answer without a name",
     }
 }
 
@@ -119,17 +123,15 @@ impl fmt::Display for HourAccount<'_> {
     fn fmt<W: fmt::Write>(&self, f: &mut fmt::Formatter<W>) -> fmt::Result {
         let hour = self.hour;
         write!(f, "hour {hour:>2}:")?;
-        let mut mark = "";
-        if let Some(say) = self.book.say(hour) {
-            let who = Who(say);
+        let say = self.book.say(hour).map(Who::from);
+        if let Some(who) = say {
             write!(f, " {who} has the say")?;
-            mark = ",";
         }
-        if let Some(say) = self.book.inner_say(hour) {
-            let who = Who(say);
+        if let Some(who) = self.book.inner_say(hour).map(Who::from) {
             write!(f, ", below it {who}")?;
         }
         if let Some(seconds) = self.book.booked(hour) {
+            let mark = if say.is_some() { "," } else { "" };
             write!(f, "{mark} {seconds} of {HOUR_SECONDS} seconds booked")?;
         }
         for slot in 0..SLOTS {

@@ -1,5 +1,6 @@
 -- The services that a plan can be tried on, each with its own states.
-use Rattle.std.specs.Prelude.{ℕ, zero, suc, Bool, cond, not, ◌||◌, List, Some, None, codes, Option, ◌==◌}
+use Rattle.std.specs.Prelude.{ℕ, Bool, cond, not, ◌||◌, List, Some, None, codes, Option, ◌==◌}
+use Rattle.std.specs.List.{list_any, range_with_len}
 use Rattle.std.specs.Option.{unwrap_or}
 use Rattle.std.specs.Str.{bytes_eq}
 use Rattle.schedule.specs.Changes.{slots}
@@ -79,10 +80,10 @@ book_booked (say_order m) h = None
 book_booked (say_ledger m) h = Some (hour_total m.1 h)
 book_booked (say_say_order m) h = None
 
--- whether somebody has the say of an hour, or one of its first slots holds something
-unfoldable pub used_to : BookState → ℕ → ℕ → Bool
-used_to m h zero = not (unwrap_or (book_say m h) 0 == 0) || not (unwrap_or (book_inner_say m h) 0 == 0)
-used_to m h (suc s) = used_to m h s || not (book_reads m h s == 0)
+-- whether a slot of an hour holds anything
+abbrev pub book_holds : BookState → ℕ → Bool
+book_holds m h = list_any (λ s. not (book_reads m h s == 0)) (range_with_len 0 slots)
 
+-- whether an hour holds anything, or somebody has the say of it
 abbrev pub book_used : BookState → ℕ → Bool
-book_used m h = used_to m h slots
+book_used m h = not (unwrap_or (book_say m h) 0 == 0) || not (unwrap_or (book_inner_say m h) 0 == 0) || book_holds m h

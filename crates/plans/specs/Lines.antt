@@ -1,12 +1,13 @@
 -- What the words of a plan's line ask for.
 use Rattle.std.specs.Prelude.{◌≡◌, ℕ, zero, suc, ◌^◌, ◌<◌, Bool, false, cond, ◌&&◌, List, [], ◌∷◌, ◌++◌, length, Some, None, Ok, Err, codes, Option, Result, nat_lt}
+use Rattle.std.specs.Option.{option_map, option_or}
 use Rattle.std.specs.Str.Parse.{without_leading_plus, digits_value}
 use Rattle.std.specs.Char.{is_whitespace, is_not_whitespace}
 use Rattle.std.specs.Str.{NoCharPasses, EmptyOrStartsWithPassing, bytes_eq, all_ascii_digits}
+use denote.Ref.{Bor}
 use Rattle.schedule.specs.Changes.{department_number, kind_number}
+use Rattle.schedule.specs.Changes as changes
 use Rattle.schedule.specs.declared.change.Change.{Change}
-use Rattle.schedule.specs.declared.change.Department.TheVariants.{Sales, Programming}
-use Rattle.schedule.specs.declared.change.Kind.TheVariants.{Put, Clear, Replace, Claim, Yield}
 use Rattle.plans.specs.declared.request.Misread.{Misread}
 use Rattle.plans.specs.declared.request.Misread.TheVariants as misread
 use Rattle.plans.specs.declared.request.Request.{Request}
@@ -27,6 +28,12 @@ FirstWords zero bs words = words ≡ []
 FirstWords (suc n) bs [] = NoCharPasses is_not_whitespace bs
 FirstWords (suc n) bs (w ∷ words) = (rest : List ℕ) × First bs w rest × FirstWords n rest words
 
+-- the words that calls of `next` found, up to the first that found none
+abbrev pub found : List (Option (Bor (List ℕ))) → List (List ℕ)
+found [] = []
+found (None ∷ nexts) = []
+found (Some w ∷ nexts) = w.now ∷ found nexts
+
 abbrev pub some_digits : List ℕ → Bool
 some_digits [] = false
 some_digits (c ∷ cs) = all_ascii_digits (c ∷ cs)
@@ -35,18 +42,12 @@ some_digits (c ∷ cs) = all_ascii_digits (c ∷ cs)
 abbrev pub number_of : List ℕ → Option ℕ
 number_of w = cond (some_digits (without_leading_plus w) && nat_lt (digits_value 10 (without_leading_plus w)) (2 ^ 32)) (Some (digits_value 10 (without_leading_plus w))) None
 
+-- the number of what has the name, or the number that the word writes
 abbrev pub department_named : List ℕ → Option ℕ
-department_named w =
-    cond (bytes_eq w (codes "sales")) (Some (department_number Sales))
-    (cond (bytes_eq w (codes "programming")) (Some (department_number Programming)) (number_of w))
+department_named w = option_or (option_map department_number (changes.department_named w)) (number_of w)
 
 abbrev pub kind_named : List ℕ → Option ℕ
-kind_named w =
-    cond (bytes_eq w (codes "put")) (Some (kind_number Put))
-    (cond (bytes_eq w (codes "clear")) (Some (kind_number Clear))
-    (cond (bytes_eq w (codes "replace")) (Some (kind_number Replace))
-    (cond (bytes_eq w (codes "claim")) (Some (kind_number Claim))
-    (cond (bytes_eq w (codes "yield")) (Some (kind_number Yield)) (number_of w)))))
+kind_named w = option_or (option_map kind_number (changes.kind_named w)) (number_of w)
 
 -- a number that was read, or the reason that the word is none; then what goes on with it
 abbrev pub with_number : {X : Type 0} → Option ℕ → Misread → (ℕ → Result X Misread) → Result X Misread

@@ -2,13 +2,14 @@
 
 ghost use Rattle.std.specs.Prelude.{◌≡◌};
 ghost use Rattle.std.specs.Option.{option_map};
-ghost use Rattle.plans.specs.Books.{BookState, book_meaning, book_next, book_outcome, book_reads, book_named, book_say, book_inner_say, book_booked, book_used};
+ghost use Rattle.plans.specs.Books.{BookState, book_meaning, book_next, book_outcome, book_reads, book_named, book_say, book_inner_say, book_booked, book_holds, book_used};
 
 use schedule::Change;
 use schedule::change::SLOTS;
 use services::{BreakLedger, FinalSay, RunningOrder, Service};
 
 /// One of the services, by what it is made of.
+// kept: each match has an arm for each type of service, since a function may not hand out a `dyn`, and a macro for two matches is no shorter.
 #[derive(Clone, Copy)]
 pub enum Book {
     Order(RunningOrder),
@@ -30,32 +31,12 @@ impl Service for Book {
     ghost reads = { book_reads };
 
     fn carry_out(&mut self, change: &Change) -> (u32, u32) {
-        match *self {
-            Book::Order(mut service) => {
-                let outcome = service.carry_out(change);
-                *self = Book::Order(service);
-                outcome
-            }
-            Book::Ledger(mut service) => {
-                let outcome = service.carry_out(change);
-                *self = Book::Ledger(service);
-                outcome
-            }
-            Book::SayOrder(mut service) => {
-                let outcome = service.carry_out(change);
-                *self = Book::SayOrder(service);
-                outcome
-            }
-            Book::SayLedger(mut service) => {
-                let outcome = service.carry_out(change);
-                *self = Book::SayLedger(service);
-                outcome
-            }
-            Book::SaySayOrder(mut service) => {
-                let outcome = service.carry_out(change);
-                *self = Book::SaySayOrder(service);
-                outcome
-            }
+        match self {
+            Book::Order(service) => service.carry_out(change),
+            Book::Ledger(service) => service.carry_out(change),
+            Book::SayOrder(service) => service.carry_out(change),
+            Book::SayLedger(service) => service.carry_out(change),
+            Book::SaySayOrder(service) => service.carry_out(change),
         }
     }
 
@@ -124,11 +105,15 @@ impl Book {
     pub fn in_use(&self, hour: u32) -> bool
         ensures { result ≡ book_used (book_meaning self.now) hour }
     {
-        let mut used = (self.say(hour).unwrap_or(0) != 0)
-            | (self.inner_say(hour).unwrap_or(0) != 0);
-        for slot in 0..SLOTS {
-            used = used | (self.read(hour, slot) != 0);
-        }
-        used
+        self.say(hour).is_some_and(|say| say != 0)
+            || self.inner_say(hour).is_some_and(|say| say != 0)
+            || self.holds_anything(hour)
+    }
+
+    /// Whether a slot of an hour holds anything.
+    fn holds_anything(&self, hour: u32) -> bool
+        ensures { result ≡ book_holds (book_meaning self.now) hour }
+    {
+        (0..SLOTS).any(|slot| self.read(hour, slot) != 0)
     }
 }

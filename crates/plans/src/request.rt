@@ -1,7 +1,7 @@
 //! What a line of a plan asks for.
 
-ghost use Rattle.std.specs.Prelude.{◌≡◌, ℕ, List, [], ◌∷◌};
-ghost use Rattle.plans.specs.Lines.{FirstWords, asked_by, change_named, place_named};
+ghost use Rattle.std.specs.Prelude.{◌≡◌, ℕ, List};
+ghost use Rattle.plans.specs.Lines.{FirstWords, asked_by, found, change_named, place_named};
 
 use crate::words::{department, kind, number};
 use schedule::Change;
@@ -61,51 +61,33 @@ pub fn asked(line: &str) -> Result<Request, Misread>
     ensures { (words : List (List ℕ)) × FirstWords 6 line.now words × (result ≡ asked_by words) }
 {
     let mut words = line.split_whitespace();
-    let Some(first) = words.next() else {
-        return Err(Misread::OtherWords);
-    };
-    let Some(second) = words.next() else {
-        return Err(Misread::OtherWords);
-    };
-    let Some(third) = words.next() else {
-        return Err(Misread::OtherWords);
-    };
-    let Some(fourth) = words.next() else {
-        return reading_of(first, second, third);
-    };
-    let Some(fifth) = words.next() else {
-        return Err(Misread::OtherWords);
-    };
-    match words.next() {
-        Some(_sixth) => Err(Misread::OtherWords),
-        None => carrying_of(first, second, third, fourth, fifth),
-    }
+    asked_of([
+        words.next(),
+        words.next(),
+        words.next(),
+        words.next(),
+        words.next(),
+        words.next(),
+    ])
 }
 
-/// Three words ask for a reading if the first is `read`.
-fn reading_of(read: &str, hour: &str, slot: &str) -> Result<Request, Misread>
-    ensures { result ≡ asked_by (read.now ∷ (hour.now ∷ (slot.now ∷ []))) }
+/// What the first six words ask for, where `None` stands after the last.
+fn asked_of(words: [Option<&str>; 6]) -> Result<Request, Misread>
+    ensures { result ≡ asked_by (found words.entry) }
 {
-    match read {
-        "read" => {
-            let place = place_of(hour, slot)?;
-            Ok(Request::Reading(place.0, place.1))
+    match words {
+        [Some(word), Some(hour), Some(slot), None, ..] => {
+            if word != "read" {
+                return Err(Misread::OtherWords);
+            }
+            let (hour, slot) = place_of(hour, slot)?;
+            Ok(Request::Reading(hour, slot))
+        }
+        [Some(of), Some(to_do), Some(hour), Some(slot), Some(value), None] => {
+            Ok(Request::Carrying(change_of(of, to_do, hour, slot, value)?))
         }
         _ => Err(Misread::OtherWords),
     }
-}
-
-/// Five words ask for a change.
-fn carrying_of(
-    of: &str,
-    to_do: &str,
-    hour: &str,
-    slot: &str,
-    value: &str,
-) -> Result<Request, Misread>
-    ensures { result ≡ asked_by (of.now ∷ (to_do.now ∷ (hour.now ∷ (slot.now ∷ (value.now ∷ []))))) }
-{
-    Ok(Request::Carrying(change_of(of, to_do, hour, slot, value)?))
 }
 
 impl fmt::Display for Misread {

@@ -6,10 +6,13 @@ ghost use Rattle.plans.specs.Days.{no_counts, noted, count_of};
 /// One more than the greatest first number of an outcome.
 pub const OUTCOMES: u32 = 10;
 
+/// The same, as the length of a table.
+const COUNTS: usize = OUTCOMES as usize;
+
 /// The counts by the first number of an outcome, each up to the greatest number there is.
 #[derive(Clone, Copy)]
 pub struct Tally {
-    counts: [u32; 10],
+    counts: [u32; COUNTS],
 }
 
 impl Tally {
@@ -17,7 +20,7 @@ impl Tally {
     pub fn new() -> Tally
         ensures { result.counts ≡ no_counts }
     {
-        Tally { counts: [0; 10] }
+        Tally { counts: [0; COUNTS] }
     }
 
     /// Counts a change by the first number of its outcome.
@@ -25,8 +28,8 @@ impl Tally {
         ensures { self.new.counts ≡ noted self.old.counts outcome }
     {
         if outcome < OUTCOMES {
-            let i = outcome as usize;
-            self.counts[i] = self.counts[i].saturating_add(1);
+            let count = &mut self.counts[outcome as usize];
+            *count = count.saturating_add(1);
         }
     }
 
@@ -34,10 +37,6 @@ impl Tally {
     pub fn count(&self, outcome: u32) -> u32
         ensures { result ≡ count_of self.now.counts outcome }
     {
-        if outcome < OUTCOMES {
-            self.counts[outcome as usize]
-        } else {
-            0
-        }
+        self.counts.get(outcome as usize).copied().unwrap_or(0)
     }
 }

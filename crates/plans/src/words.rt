@@ -16,23 +16,18 @@ pub(crate) fn number(word: &str) -> Option<u32>
 pub(crate) fn department(word: &str) -> Option<u32>
     ensures { result ≡ department_named word.now }
 {
-    match word {
-        "sales" => Some(Department::Sales.number()),
-        "programming" => Some(Department::Programming.number()),
-        _ => number(word),
-    }
+    word.parse::<Department>()
+        .ok()
+        .map(u32::from)
+        .or_else(|| number(word))
 }
 
 /// The number of a kind, given by its name or as any number.
 pub(crate) fn kind(word: &str) -> Option<u32>
     ensures { result ≡ kind_named word.now }
 {
-    match word {
-        "put" => Some(Kind::Put.number()),
-        "clear" => Some(Kind::Clear.number()),
-        "replace" => Some(Kind::Replace.number()),
-        "claim" => Some(Kind::Claim.number()),
-        "yield" => Some(Kind::Yield.number()),
-        _ => number(word),
-    }
+    word.parse::<Kind>()
+        .ok()
+        .map(u32::from)
+        .or_else(|| number(word))
 }

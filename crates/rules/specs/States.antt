@@ -27,17 +27,15 @@ row_of core id = slice_index_or core.table.rows (id - 1) blank
 -- the record of a change, and the clock
 abbrev pub with_row : ℕ → Row → Clock → Core → Core
 with_row id w clock core =
-    record { site = core.site; entered = core.entered; clock = clock; known = core.known; table = record { rows = slice_set core.table.rows (id - 1) w } }
+    record core { clock = clock; table = record { rows = slice_set core.table.rows (id - 1) w } }
 
 -- how many changes were entered here
 abbrev pub with_entered : ℕ → Core → Core
-with_entered n core =
-    record { site = core.site; entered = n; clock = core.clock; known = core.known; table = core.table }
+with_entered n core = record core { entered = n }
 
 -- the promises known of a controller
 abbrev pub known_of : Core → ℕ → List ℕ
 known_of core c = (get_or core.known (c - 1) (record { words = no_words })).words
 
 abbrev pub with_known : ℕ → List ℕ → Core → Core
-with_known c ws core =
-    record { site = core.site; entered = core.entered; clock = core.clock; known = slice_set core.known (c - 1) (record { words = ws }); table = core.table }
+with_known c ws core = record core { known = slice_set core.known (c - 1) (record { words = ws }) }

@@ -1,5 +1,5 @@
 -- Laws of the services, over single changes and over whole runs.
-use Rattle.std.specs.Prelude.{◌≡◌, ℕ, Bool, true, cond, not, ◌&&◌, List, [], ◌∷◌, length, take, drop, Ok, Err, Result, ◌==◌, ◌≢◌}
+use Rattle.std.specs.Prelude.{◌≡◌, ℕ, Bool, true, cond, not, ◌&&◌, List, [], ◌∷◌, length, take, drop, fold, Ok, Err, Result, ◌==◌, ◌≢◌}
 use Rattle.schedule.specs.Changes.{department_fits, hours, hour_fits, slot_fits, kind_number}
 use Rattle.schedule.specs.declared.change.Change.{Change}
 use Rattle.schedule.specs.declared.change.Kind.TheVariants.{Put, Claim, Yield}
@@ -10,8 +10,7 @@ use Rattle.services.specs.Say.{Says, say_at}
 
 -- the state after changes, carried out one after the other
 abbrev pub ran : {State : Type 0} → (State → Change → State) → State → List Change → State
-ran next state [] = state
-ran next state (c ∷ cs) = ran next (next state c) cs
+ran next state cs = fold next state cs
 
 -- a refused change, one whose outcome does not begin with 0, leaves the state as it was
 abbrev pub RefusedKeeps : {State : Type 0} → (State → Change → State) → (State → Change → ℕ × ℕ) → Type 0

@@ -7,7 +7,7 @@ ghost use Rattle.services.specs.Places.{no_places, hour_seconds, hour_total};
 ghost use Rattle.services.specs.Say.{say_next, say_outcome};
 
 use crate::steady::Steady;
-use schedule::{Change, Kind};
+use schedule::{Change, Department, Kind};
 use services::ledger::BreakLedger;
 use services::say::FinalSay;
 use services::service::Service;
@@ -89,8 +89,8 @@ fn seconds(account: u32, value: u32) -> Change
     ensures { result ≡ put_of 1 0 account value }
 {
     Change {
-        department: 1,
-        kind: Kind::Put.number(),
+        department: Department::Sales.into(),
+        kind: Kind::Put.into(),
         hour: 0,
         slot: account,
         value,

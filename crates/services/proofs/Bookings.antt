@@ -1,5 +1,5 @@
 -- The ledger's rules keep every hour to its seconds.
-use Rattle.std.proofs.Common.{◌≡◌, ℕ, ◌+◌, ◌-◌, ◌≤◌, Bool, true, false, get_or, set, Some, Ok, Err, sum, Result, sym, refl, ap, ◌∙◌, subst, arith}
+use Rattle.std.proofs.Common.{◌≡◌, ℕ, ◌+◌, ◌-◌, ◌≤◌, Bool, true, false, get_or, set, Some, Ok, Err, sum, Result, refl, arith}
 use Rattle.std.proofs.lemmas.Bool.Decides.{nat_tests}
 use Rattle.schedule.specs.Changes.{hour_fits, slot_fits}
 use Rattle.schedule.specs.declared.change.Change.{Change}
@@ -27,9 +27,3 @@ next_within t c w = by (ledger_ruling t c) refl
     by : (r : Result ℕ (Answer × ℕ)) → ledger_ruling t c ≡ r → hours_within (table_by r t c) ≡ true
     by (Ok v) e = put v e (hour_fits c.hour) refl (slot_fits c.slot) refl
     by (Err refusal) e = w
-
--- a table that the rules led to
-pub ruled_within : (t : Table) (c : Change) (value : ℕ) (after : Table) → hours_within t ≡ true → ledger_ruling t c ≡ Ok value → after ≡ with_place t c.hour c.slot value → hours_within after ≡ true
-ruled_within t c value after w ruled e =
-    let led : ledger_next t c ≡ after = ap (λ r. table_by r t c) ruled ∙ sym e in
-    subst (λ x. hours_within x ≡ true) led (next_within t c w)

@@ -1,6 +1,6 @@
 -- What is decided on one place of a day. "Held" is what the place held before.
-use Rattle.std.specs.Prelude.{◌≡◌, ℕ, ◌+◌, ◌-◌, Bool, true, false, cond, not, ◌&&◌, ◌||◌, Some, None, Ok, Err, Option, Result, ◌==◌, nat_lt}
-use Rattle.schedule.specs.Changes.{change_fits, kind_number}
+use Rattle.std.specs.Prelude.{ℕ, ◌+◌, ◌-◌, Bool, false, cond, not, ◌&&◌, ◌||◌, Some, None, Ok, Err, Option, Result, ◌==◌, nat_lt}
+use Rattle.schedule.specs.Changes.{change_fits, kind_number, kind_of}
 use Rattle.schedule.specs.declared.change.Change.{Change}
 use Rattle.schedule.specs.declared.change.Kind.{Kind}
 use Rattle.schedule.specs.declared.change.Kind.TheVariants.{Put, Clear, Replace, Claim, Yield}
@@ -9,9 +9,8 @@ use Rattle.services.specs.declared.answer.Answer.{Answer}
 use Rattle.services.specs.declared.answer.Answer.TheVariants.{Occupied, Empty, NoValue, HourFull, OutsideLimits}
 
 -- what a change asks for: its kind, if all its numbers are within their limits
-abbrev pub Asked : Change → Option Kind → Type 0
-Asked c None = change_fits c ≡ false
-Asked c (Some k) = (change_fits c ≡ true) × (c.kind ≡ kind_number k)
+abbrev pub asked : Change → Option Kind
+asked c = cond (change_fits c) (kind_of c.kind) None
 
 abbrev pub is : Change → Kind → Bool
 is c k = c.kind == kind_number k

@@ -21,6 +21,11 @@ abbrev pub say_number : Option Department → ℕ
 say_number None = 0
 say_number (Some d) = department_number d
 
+-- who has the say of an hour, nobody outside the day
+abbrev pub holder_at : Says → ℕ → Option Department
+holder_at says h = cond (hour_fits h) (slice_index_or says h None) None
+
+-- the same as a number
 abbrev pub say_at : Says → ℕ → ℕ
 say_at says h = cond (hour_fits h) (say_number (slice_index_or says h None)) 0
 

@@ -1,7 +1,10 @@
 //! What carrying out a change came to.
 
-ghost use Rattle.std.specs.Prelude.{◌≡◌};
+ghost use Rattle.std.specs.Prelude.{◌≡◌, ok_or};
+ghost use Rattle.schedule.specs.Changes.{unknown};
 ghost use Rattle.services.specs.Answers.{answer_number, answer_of};
+
+use schedule::UnknownNumber;
 
 /// What carrying out a change came to.
 #[derive(Clone, Copy, PartialEq, Eq, Debug)]
@@ -16,12 +19,12 @@ pub enum Answer {
     OutsideLimits,
 }
 
-impl Answer {
-    /// The number that stands for the answer, the first of an outcome's two.
-    pub fn number(&self) -> u32
-        ensures { result ≡ answer_number self.now }
-    {
-        match self {
+/// The number that stands for an answer, the first of an outcome's two.
+impl From<Answer> for u32 {
+    ghost from_gives = { λ answer number. number ≡ answer_number answer };
+
+    fn from(answer: Answer) -> u32 {
+        match answer {
             Answer::Done => 0,
             Answer::Occupied => 1,
             Answer::Empty => 2,
@@ -32,21 +35,25 @@ impl Answer {
             Answer::OutsideLimits => 9,
         }
     }
+}
 
-    /// The answer that a number stands for.
-    pub fn of(number: u32) -> Option<Answer>
-        ensures { result ≡ answer_of number }
-    {
+/// The answer that a number stands for.
+impl TryFrom<u32> for Answer {
+    type Error = UnknownNumber;
+
+    ghost try_from_gives = { λ number answer. answer ≡ ok_or (answer_of number) (unknown number) };
+
+    fn try_from(number: u32) -> Result<Answer, UnknownNumber> {
         match number {
-            0 => Some(Answer::Done),
-            1 => Some(Answer::Occupied),
-            2 => Some(Answer::Empty),
-            3 => Some(Answer::NoValue),
-            4 => Some(Answer::HourFull),
-            7 => Some(Answer::NotHolder),
-            8 => Some(Answer::OthersSay),
-            9 => Some(Answer::OutsideLimits),
-            _ => None,
+            0 => Ok(Answer::Done),
+            1 => Ok(Answer::Occupied),
+            2 => Ok(Answer::Empty),
+            3 => Ok(Answer::NoValue),
+            4 => Ok(Answer::HourFull),
+            7 => Ok(Answer::NotHolder),
+            8 => Ok(Answer::OthersSay),
+            9 => Ok(Answer::OutsideLimits),
+            _ => Err(UnknownNumber(number)),
         }
     }
 }

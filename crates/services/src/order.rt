@@ -4,9 +4,7 @@ ghost use Rattle.std.specs.Prelude.{◌≡◌};
 ghost use Rattle.services.specs.Makes.{order_next, order_outcome};
 ghost use Rattle.services.specs.Places.{Table, no_places, place};
 
-use crate::answer::Answer;
 use crate::places::Places;
-use crate::rules::judge;
 use crate::service::Service;
 use schedule::Change;
 
@@ -39,14 +37,7 @@ impl Service for RunningOrder {
     ghost reads = { place };
 
     fn carry_out(&mut self, change: &Change) -> (u32, u32) {
-        let held = self.places.at(change.hour, change.slot);
-        match judge(change, held, None) {
-            Ok(value) => {
-                self.places.put(change.hour, change.slot, value);
-                (Answer::Done.number(), held)
-            }
-            Err((answer, told)) => (answer.number(), told),
-        }
+        self.places.carry_out(change, None)
     }
 
     fn read(&self, hour: u32, slot: u32) -> u32 {

@@ -1,7 +1,7 @@
 //! The rules that the makes share: what is decided on one place of a day.
 
 ghost use Rattle.std.specs.Prelude.{◌≡◌};
-ghost use Rattle.services.specs.Rules.{Asked, over, judged};
+ghost use Rattle.services.specs.Rules.{asked, over, judged};
 
 use crate::answer::Answer;
 use schedule::{Change, Kind};
@@ -11,10 +11,10 @@ pub const HOUR_SECONDS: u32 = 720;
 
 /// What a change asks for, if all its numbers are within their limits.
 pub(crate) fn asks(change: &Change) -> Option<Kind>
-    ensures { Asked change.now result }
+    ensures { result ≡ asked change.now }
 {
     if change.fits() {
-        Kind::of(change.kind)
+        Kind::try_from(change.kind).ok()
     } else {
         None
     }
@@ -24,10 +24,7 @@ pub(crate) fn asks(change: &Change) -> Option<Kind>
 fn passes(total: Option<u32>, held: u32, value: u32) -> bool
     ensures { result ≡ over total held value }
 {
-    match total {
-        Some(seconds) => seconds.saturating_sub(held).saturating_add(value) > HOUR_SECONDS,
-        None => false,
-    }
+    total.is_some_and(|seconds| seconds.saturating_sub(held).saturating_add(value) > HOUR_SECONDS)
 }
 
 /// What the place holds after the change, or why it is refused and what is told besides.

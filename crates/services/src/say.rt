@@ -1,7 +1,7 @@
 //! Final say: for each hour one department may have the say over a service.
 
 ghost use Rattle.std.specs.Prelude.{◌≡◌};
-ghost use Rattle.services.specs.Say.{Says, no_says, say_number, say_at, say_judged, say_becomes, say_next, say_outcome};
+ghost use Rattle.services.specs.Say.{Says, no_says, say_number, holder_at, say_at, say_judged, say_becomes, say_next, say_outcome};
 
 use crate::answer::Answer;
 use crate::places::DAY_HOURS;
@@ -32,27 +32,28 @@ pub enum SayRuling {
 fn number_of(say: Option<Department>) -> u32
     ensures { result ≡ say_number say }
 {
-    match say {
-        Some(department) => department.number(),
-        None => 0,
-    }
+    say.map_or(0, u32::from)
 }
 
-/// What is decided where the hour's say is the given number. The first line that fits decides.
-fn judge_say(change: &Change, say: u32) -> SayRuling
-    ensures { result ≡ say_judged change.now say }
+/// What is decided where the hour's say is with the given holder. The first line that fits decides.
+fn judge_say(change: &Change, holder: Option<Department>) -> SayRuling
+    ensures { result ≡ say_judged change.now (say_number holder) }
 {
-    let department = change.department;
+    let asking = Department::try_from(change.department).ok();
+    let told = number_of(holder);
     match asks(change) {
         None => SayRuling::Refused(Answer::OutsideLimits, 0),
-        Some(Kind::Claim) if say == 0 || say == department => SayRuling::Becomes(
-            Department::of(department),
-            say,
+        Some(Kind::Claim) if holder.is_none() || holder == asking => SayRuling::Becomes(
+            asking,
+            told,
         ),
-        Some(Kind::Claim) => SayRuling::Refused(Answer::OthersSay, say),
-        Some(Kind::Yield) if say == department => SayRuling::Becomes(None, department),
-        Some(Kind::Yield) => SayRuling::Refused(Answer::NotHolder, say),
-        Some(_) if say != 0 && say != department => SayRuling::Refused(Answer::OthersSay, say),
+        Some(Kind::Claim) => SayRuling::Refused(Answer::OthersSay, told),
+        Some(Kind::Yield) if holder == asking => SayRuling::Becomes(None, told),
+        Some(Kind::Yield) => SayRuling::Refused(Answer::NotHolder, told),
+        Some(_) if holder.is_some() && holder != asking => SayRuling::Refused(
+            Answer::OthersSay,
+            told,
+        ),
         Some(_) => SayRuling::Below,
     }
 }
@@ -69,15 +70,18 @@ impl<S> FinalSay<S> {
         }
     }
 
-    /// Who has the say of an hour: 0 nobody or an hour outside the day, else the department.
+    /// Who has the say of an hour, if anybody has; nobody has it outside the day.
+    pub fn holder(&self, hour: u32) -> Option<Department>
+        ensures { result ≡ holder_at self.now.says hour }
+    {
+        self.says.get(hour as usize).copied().flatten()
+    }
+
+    /// The number for who has the say of an hour: 0 nobody or an hour outside the day, else the department.
     pub fn say(&self, hour: u32) -> u32
         ensures { result ≡ say_at self.now.says hour }
     {
-        if hour < HOURS {
-            number_of(self.says[hour as usize])
-        } else {
-            0
-        }
+        number_of(self.holder(hour))
     }
 
     /// Gives the say of an hour to a department or to nobody; outside the day nothing changes.
@@ -85,6 +89,7 @@ impl<S> FinalSay<S> {
         ensures says { self.new.says ≡ say_becomes self.old.says hour say }
         ensures below { self.new.below ≡ self.old.below }
     {
+        // kept: tried with `get_mut`, and after a write through it the proof knows no element.
         if hour < HOURS {
             self.says[hour as usize] = say;
         }
@@ -110,13 +115,13 @@ impl<S: Service> Service for FinalSay<S> {
     ghost reads = { λ state. S.Service.reads state.1 };
 
     fn carry_out(&mut self, change: &Change) -> (u32, u32) {
-        match judge_say(change, self.say(change.hour)) {
+        match judge_say(change, self.holder(change.hour)) {
             SayRuling::Below => self.below.carry_out(change),
             SayRuling::Becomes(say, told) => {
                 self.give(change.hour, say);
-                (Answer::Done.number(), told)
+                (Answer::Done.into(), told)
             }
-            SayRuling::Refused(answer, told) => (answer.number(), told),
+            SayRuling::Refused(answer, told) => (answer.into(), told),
         }
     }
 

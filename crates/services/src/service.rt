@@ -19,6 +19,7 @@ pub trait Service {
     ghost reads: { State → ℕ → ℕ → ℕ };
 
     /// Carries out a change, whatever it is, and answers its outcome.
+    // kept: an outcome is a pair of numbers by a rule of the project, 0 first where the change is done.
     fn carry_out(&mut self, change: &Change) -> (u32, u32)
         ensures moves { meaning self.new ≡ next (meaning self.old) change.now }
         ensures answers { result ≡ outcome (meaning self.old) change.now };

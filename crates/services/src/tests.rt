@@ -1,7 +1,7 @@
 //! Outcomes at every edge of the rules.
 
 use crate::*;
-use schedule::Change;
+use schedule::{Change, Department};
 use std::process::Abort;
 
 /// Department, kind, hour, slot, value.
@@ -116,6 +116,7 @@ fn say(rt: HostRuntime) {
     );
     assert_eq!(rt; layer.read(7, 0), 4);
     assert_eq!(rt; layer.say(6), 0);
+    assert_eq!(rt; layer.holder(6), None);
     assert_eq!(rt; layer.below().read(6, 0), 0);
 }
 
@@ -133,6 +134,7 @@ fn say_over_say(rt: HostRuntime) {
         ],
     );
     assert_eq!(rt; layers.say(6), 1);
+    assert_eq!(rt; layers.holder(6), Some(Department::Sales));
     assert_eq!(rt; layers.say(24), 0);
     assert_eq!(rt; layers.below().say(6), 0);
 }
@@ -140,9 +142,9 @@ fn say_over_say(rt: HostRuntime) {
 #[test]
 fn numbers(rt: HostRuntime) {
     for n in 0..11 {
-        match Answer::of(n) {
-            Some(answer) => assert_eq!(rt; answer.number(), n),
-            None => assert!(rt; n == 5 || n == 6 || n == 10),
+        match Answer::try_from(n) {
+            Ok(answer) => assert_eq!(rt; u32::from(answer), n),
+            Err(_) => assert!(rt; n == 5 || n == 6 || n == 10),
         }
     }
 }

@@ -1,19 +1,13 @@
 -- The staged calls compute.
-use Rattle.std.proofs.Common.{◌≡◌, ℕ, ◌+◌, ◌*◌, ◌≤◌, Some, sym, refl, subst}
+use Rattle.std.proofs.Common.{rules, ℕ, ◌+◌, ◌*◌, ◌≤◌, sym, subst}
 use lib.Count.{ones, ones_in}
-use Rattle.line_format.specs.Encoding.{encode}
-use Rattle.line_format.specs.declared.message.Message.TheVariants.{MPayload}
 use Rattle.promise_words.specs.Runs.{run_past, unbroken}
 use Rattle.promise_words.specs.Timestamps.{no_words}
-use Rattle.services.specs.Makes.{order_next, order_outcome}
-use Rattle.services.specs.Places.{no_places}
 use Rattle.sites.specs.declared.site.Site.{Site}
 use Rattle.tables.specs.Tables.{blank_rows}
-use Rattle.rules.specs.Calls.{enter, deliver, take_over, carry_out}
 use Rattle.rules.specs.States.{first_core}
 use Rattle.rules.specs.declared.state.Core.{Core}
-use Rattle.staged_runs.specs.Calls.{CallsOf, StagedCalls, refused, answered, after}
-use Rattle.staged_runs.specs.Runs.{spot, members}
+use Rattle.staged_runs.specs.Calls.{CallsOf, StagedCalls}
 
 abbrev site_of : (r f own : ℕ) → 3 ≤ r → r ≤ 7 → 1 ≤ f → 2 * f + 1 ≤ r → 1 ≤ own → own ≤ r → Site
 site_of r f own least most some spare first last =
@@ -28,44 +22,9 @@ module _ (least : 3 ≤ 3) (most : 3 ≤ 7) (some : 1 ≤ 1) (spare : 2 * 1 + 1 
   abbrev core : Core
   core = first_core (site_of 3 1 1 least most some spare first last)
 
-  next : answered (take_over (after core (deliver core (encode (MPayload 3 65 spot (members 6))) 2048)) 65 2048) ≡ Some 4
-  unfolding ones ones_in no_words blank_rows
-  next = refl
-
-  second : answered (enter (after core (enter core spot (members 3) 2048)) spot (members 3) 2048) ≡ Some 2
-  unfolding ones ones_in no_words blank_rows
-  second = refl
-
-  none_due : refused (carry_out order_next order_outcome core no_places) ≡ 20
-  unfolding no_words unbroken run_past blank_rows
-  none_due = refl
-
   begun : CallsOf core
-  unfolding ones ones_in no_words blank_rows
-  begun =
-      record {
-        short_buffer = refl;
-        no_such_hour = refl;
-        home_not_in_set = refl;
-        all_entered = refl;
-        first_number = refl;
-        messages = refl;
-        places = refl;
-        second_number = second;
-        no_message = refl;
-        no_such_sender = refl;
-        from_itself = refl;
-        not_from_home = refl;
-        not_from_owner = refl;
-        nothing_to_commit = refl;
-        payload = refl;
-        no_such_change = refl;
-        nothing_known = refl;
-        next_ballot = next;
-        told = refl;
-        told_to = refl;
-        nothing_due = none_due;
-      }
+  unfolding ones ones_in no_words unbroken run_past blank_rows
+  begun = search rules
 
 pub called : StagedCalls
 called site e g h =

@@ -1,6 +1,7 @@
 -- The staged runs. Each is known by what it shows.
 use Rattle.std.specs.Prelude.{◌≡◌, ℕ, List, [], ◌∷◌, ◌++◌, replicate, Some, Ok, Option}
 use Rattle.schedule.specs.declared.change.Change.{Change}
+use Rattle.schedule.specs.declared.phase.Phase.TheVariants.{Payload, Propose, RecoverR, Commit}
 use Rattle.schedule.specs.declared.set.ControllerSet.{ControllerSet}
 use Rattle.line_format.specs.Encoding.{encode}
 use Rattle.line_format.specs.declared.message.Message.{Message}
@@ -10,7 +11,6 @@ use Rattle.promise_words.specs.Stability.{stable_of}
 use Rattle.promise_words.specs.Timestamps.{no_words, with_range}
 use Rattle.promise_words.specs.declared.timestamps.Timestamps.{Timestamps}
 use Rattle.record.specs.Rows.{blank, in_phase, at_ballots}
-use Rattle.schedule.specs.declared.phase.Phase.TheVariants.{Payload, Propose, RecoverR, Commit}
 use Rattle.record.specs.declared.row.Row.{Row}
 use Rattle.services.specs.Makes.{order_next, order_outcome, ledger_outcome}
 use Rattle.services.specs.Places.{Table, no_places, with_place}

@@ -1,12 +1,12 @@
 -- How runs are staged: what a controller holds of one change, and the messages that it gets one after the other.
 use Rattle.std.specs.Prelude.{ℕ, List, [], ◌∷◌, ◌++◌, Some, None, Ok, Err, Option, Result}
 use Rattle.schedule.specs.declared.change.Change.{Change}
+use Rattle.schedule.specs.declared.phase.Phase.{Phase}
 use Rattle.schedule.specs.declared.set.ControllerSet.{ControllerSet}
 use Rattle.line_format.specs.declared.message.Message.{Message}
 use Rattle.promise_words.specs.Timestamps.{no_words}
 use Rattle.promise_words.specs.declared.clock.Clock.{Clock}
 use Rattle.record.specs.Rows.{blank}
-use Rattle.schedule.specs.declared.phase.Phase.{Phase}
 use Rattle.record.specs.declared.row.Row.{Row}
 use Rattle.sites.specs.declared.refusal.Refusal.{Refusal}
 use Rattle.sites.specs.declared.sent.Sent.{Sent}

@@ -32,49 +32,12 @@ mod tests {
         clock
     }
 
-    // Whether a step hands out just this.
-    fn tells(answer: &Result<Option<Sent>, Refusal>, to: u32, message: &Message) -> bool {
-        match answer {
-            Ok(Some(sent)) => sent.to.bits == to && sent.message == *message,
-            _ => false,
-        }
-    }
-
-    // Whether a step is made, and hands out nothing.
-    fn is_silent(answer: &Result<Option<Sent>, Refusal>) -> bool {
-        match answer {
-            Ok(None) => true,
-            _ => false,
-        }
-    }
-
-    // The number of a step's refusal; 0 where it is made.
-    fn refused(answer: &Result<Option<Sent>, Refusal>) -> u32 {
-        match answer {
-            Ok(_) => 0,
-            Err(why) => why.number(),
-        }
-    }
-
-    // What was answered, and the number of the refusal.
-    fn outcome(answer: &Result<u32, Refusal>) -> (u32, u32) {
-        match answer {
-            Ok(n) => (*n, 0),
-            Err(why) => (0, why.number()),
-        }
-    }
-
-    fn is_same(a: &Row, b: &Row) -> bool {
-        a.phase == b.phase
-            && a.change == b.change
-            && a.set.bits == b.set.bits
-            && a.timestamp == b.timestamp
-            && a.ballot == b.ballot
-            && a.accepted == b.accepted
-            && a.promise == b.promise
-            && a.proposals.timestamps == b.proposals.timestamps
-            && a.acks.from.bits == b.acks.from.bits
-            && a.recoveries.count() == b.recoveries.count()
+    // What a step answers that hands out just this.
+    fn tells(to: u32, message: Message) -> Result<Option<Sent>, Refusal> {
+        Ok(Some(Sent {
+            to: ControllerSet { bits: to },
+            message,
+        }))
     }
 
     // The reply of a controller to the proposal of change 1.
@@ -92,25 +55,25 @@ mod tests {
         let mut row = Row::blank();
         let mut clock = clock_at(5);
         assert_eq!(rt;
-            outcome(&begin(&home, &mut row, &mut clock, &SPOT, &ONE_TO_FOUR)),
-            (6, 0)
+            begin(&home, &mut row, &mut clock, &SPOT, &ONE_TO_FOUR),
+            Ok(6)
         );
-        assert!(rt; is_silent(&step(&home, &mut row, &mut clock, &reply(2, 7))));
-        assert!(rt; is_silent(&step(&home, &mut row, &mut clock, &reply(3, 11))));
+        assert_eq!(rt; step(&home, &mut row, &mut clock, &reply(2, 7)), Ok(None));
+        assert_eq!(rt; step(&home, &mut row, &mut clock, &reply(3, 11)), Ok(None));
         assert_eq!(rt;
-            refused(&step(&home, &mut row, &mut clock, &reply(3, 11))),
-            16
+            step(&home, &mut row, &mut clock, &reply(3, 11)).map_err(|why| why.number()),
+            Err(16)
         );
         let last = step(&home, &mut row, &mut clock, &reply(4, 11));
-        assert!(rt;
+        assert_eq!(rt;
+            last,
             tells(
-                &last,
                 0b11110,
-                &Message::MCommit {
+                Message::MCommit {
                     sender: 1,
                     id: 1,
                     timestamp: 11,
-                },
+                }
             )
         );
         assert_eq!(rt; row.phase, Phase::Commit);
@@ -124,22 +87,22 @@ mod tests {
         let mut row = Row::blank();
         let mut clock = clock_at(5);
         assert_eq!(rt;
-            outcome(&begin(&home, &mut row, &mut clock, &SPOT, &ONE_TO_FOUR)),
-            (6, 0)
+            begin(&home, &mut row, &mut clock, &SPOT, &ONE_TO_FOUR),
+            Ok(6)
         );
-        assert!(rt; is_silent(&step(&home, &mut row, &mut clock, &reply(2, 7))));
-        assert!(rt; is_silent(&step(&home, &mut row, &mut clock, &reply(3, 11))));
+        assert_eq!(rt; step(&home, &mut row, &mut clock, &reply(2, 7)), Ok(None));
+        assert_eq!(rt; step(&home, &mut row, &mut clock, &reply(3, 11)), Ok(None));
         let last = step(&home, &mut row, &mut clock, &reply(4, 6));
-        assert!(rt;
+        assert_eq!(rt;
+            last,
             tells(
-                &last,
                 0b11110,
-                &Message::MConsensus {
+                Message::MConsensus {
                     sender: 1,
                     id: 1,
                     timestamp: 11,
                     ballot: 1,
-                },
+                }
             )
         );
         assert_eq!(rt; (row.ballot, row.accepted), (1, 1));
@@ -148,22 +111,25 @@ mod tests {
             id: 1,
             ballot: 1,
         };
-        assert!(rt; is_silent(&step(&home, &mut row, &mut clock, &second)));
-        assert_eq!(rt; refused(&step(&home, &mut row, &mut clock, &second)), 16);
+        assert_eq!(rt; step(&home, &mut row, &mut clock, &second), Ok(None));
+        assert_eq!(rt;
+            step(&home, &mut row, &mut clock, &second).map_err(|why| why.number()),
+            Err(16)
+        );
         let third = Message::MConsensusAck {
             sender: 3,
             id: 1,
             ballot: 1,
         };
-        assert!(rt;
+        assert_eq!(rt;
+            step(&home, &mut row, &mut clock, &third),
             tells(
-                &step(&home, &mut row, &mut clock, &third),
                 0b11110,
-                &Message::MCommit {
+                Message::MCommit {
                     sender: 1,
                     id: 1,
                     timestamp: 11,
-                },
+                }
             )
         );
         Ok(())
@@ -180,15 +146,15 @@ mod tests {
             timestamp: 1,
             ballot: 6,
         };
-        assert!(rt;
+        assert_eq!(rt;
+            step(&second, &mut row, &mut clock, &consensus),
             tells(
-                &step(&second, &mut row, &mut clock, &consensus),
                 0b100,
-                &Message::MConsensusAck {
+                Message::MConsensusAck {
                     sender: 2,
                     id: 1,
                     ballot: 6,
-                },
+                }
             )
         );
         let proposal = Message::MPropose {
@@ -198,7 +164,7 @@ mod tests {
             set: ONE_AND_TWO,
             timestamp: 1,
         };
-        assert!(rt; is_silent(&step(&second, &mut row, &mut clock, &proposal)));
+        assert_eq!(rt; step(&second, &mut row, &mut clock, &proposal), Ok(None));
         assert_eq!(rt; row.phase, Phase::Payload);
         assert_eq!(rt; (row.timestamp, row.ballot, row.accepted), (1, 6, 6));
         Ok(())
@@ -216,34 +182,31 @@ mod tests {
             set: ONE_TO_FOUR,
             timestamp: 6,
         };
-        assert!(rt;
-            tells(
-                &step(&third, &mut row, &mut clock, &proposal),
-                1,
-                &reply(3, 11),
-            )
+        assert_eq!(rt;
+            step(&third, &mut row, &mut clock, &proposal),
+            tells(1, reply(3, 11))
         );
         let commit = Message::MCommit {
             sender: 5,
             id: 1,
             timestamp: 7,
         };
-        assert!(rt; is_silent(&step(&third, &mut row, &mut clock, &commit)));
+        assert_eq!(rt; step(&third, &mut row, &mut clock, &commit), Ok(None));
         let consensus = Message::MConsensus {
             sender: 1,
             id: 1,
             timestamp: 11,
             ballot: 1,
         };
-        assert!(rt;
+        assert_eq!(rt;
+            step(&third, &mut row, &mut clock, &consensus),
             tells(
-                &step(&third, &mut row, &mut clock, &consensus),
                 1,
-                &Message::MCommit {
+                Message::MCommit {
                     sender: 3,
                     id: 1,
                     timestamp: 7,
-                },
+                }
             )
         );
         assert_eq!(rt; row.phase, Phase::Commit);
@@ -254,16 +217,13 @@ mod tests {
     #[test]
     fn a_take_over_is_at_the_next_own_ballot(rt: HostRuntime) -> Result<(), Fail> {
         let second = Site::new(Figures::new(3, 1)?, 2)?;
-        for pair in &[(0, 5), (4, 5), (5, 8)] {
+        for (held, next) in [(0, 5), (4, 5), (5, 8)] {
             let mut row = Row::blank();
             row.phase = Phase::Payload;
-            row.ballot = pair.0;
+            row.ballot = held;
             let mut clock = Clock::new();
-            assert_eq!(rt;
-                outcome(&take_over(&second, &mut row, &mut clock)),
-                (pair.1, 0)
-            );
-            assert_eq!(rt; row.ballot, pair.1);
+            assert_eq!(rt; take_over(&second, &mut row, &mut clock), Ok(next));
+            assert_eq!(rt; row.ballot, next);
             assert_eq!(rt; row.recoveries.count(), 1);
         }
         Ok(())
@@ -280,22 +240,31 @@ mod tests {
             id: 1,
             timestamp: 7,
         };
-        assert_eq!(rt; refused(&step(&second, &mut row, &mut clock, &commit)), 16);
-        assert_eq!(rt; outcome(&take_over(&second, &mut row, &mut clock)), (0, 16));
-        assert!(rt; is_same(&row, &blank));
+        assert_eq!(rt;
+            step(&second, &mut row, &mut clock, &commit).map_err(|why| why.number()),
+            Err(16)
+        );
+        assert_eq!(rt;
+            take_over(&second, &mut row, &mut clock).map_err(|why| why.number()),
+            Err(16)
+        );
+        assert_eq!(rt; row, blank);
         assert_eq!(rt; clock.time, 0);
         row.phase = Phase::Payload;
         row.ballot = 65535;
         let spent = row;
-        assert_eq!(rt; outcome(&take_over(&second, &mut row, &mut clock)), (0, 18));
-        assert!(rt; is_same(&row, &spent));
+        assert_eq!(rt;
+            take_over(&second, &mut row, &mut clock).map_err(|why| why.number()),
+            Err(18)
+        );
+        assert_eq!(rt; row, spent);
         let mut late = clock_at(1568);
         row = blank;
         assert_eq!(rt;
-            outcome(&begin(&second, &mut row, &mut late, &SPOT, &ONE_AND_TWO)),
-            (0, 19)
+            begin(&second, &mut row, &mut late, &SPOT, &ONE_AND_TWO).map_err(|why| why.number()),
+            Err(19)
         );
-        assert!(rt; is_same(&row, &blank));
+        assert_eq!(rt; row, blank);
         assert_eq!(rt; late.time, 1568);
         Ok(())
     }

@@ -1,22 +1,22 @@
 -- The steps: what a message, an entry and a take-over do to the record of a change and to the clock, at controller
 -- `own` of a group of r, of which f may be silent.
 use Prim.{tt}
-use Rattle.std.specs.Prelude.{◌≡◌, ℕ, ◌+◌, Bool, true, cond, not, ◌&&◌, Some, None, Ok, Err, Option, Result, ◌==◌, nat_le, nat_lt}
+use Rattle.std.specs.Prelude.{◌≡◌, ℕ, ◌+◌, Bool, cond, not, ◌&&◌, Some, None, Ok, Err, Option, Result, ◌==◌, nat_le, nat_lt}
 use Rattle.schedule.specs.Group.{slow_quorum, takeover_quorum}
+use Rattle.schedule.specs.Phases.{phase_number, phase_of, pending, settled}
 use Rattle.schedule.specs.Sets.{size, member}
 use Rattle.schedule.specs.declared.change.Change.{Change}
+use Rattle.schedule.specs.declared.phase.Phase.{Phase}
+use Rattle.schedule.specs.declared.phase.Phase.TheVariants.{Payload, Propose, RecoverR, RecoverP, Commit}
 use Rattle.schedule.specs.declared.set.ControllerSet.{ControllerSet}
 use Rattle.line_format.specs.declared.message.Message.{Message}
 use Rattle.line_format.specs.declared.message.Message.TheVariants.{MPayload, MPropose, MProposeAck, MCommit, MConsensus, MConsensusAck, MRec, MRecAck, MPromises}
 use Rattle.promise_words.specs.Clocks.{proposal, bumped}
 use Rattle.promise_words.specs.declared.clock.Clock.{Clock}
 use Rattle.promise_words.specs.declared.clock.ClockFault.{ClockFault}
-use Rattle.schedule.specs.Phases.{phase_number, phase_of, pending, settled}
-use Rattle.record.specs.Replies.{fresh, with_timestamp, decision, with_member, newcomer}
-use Rattle.record.specs.Choosing.{no_recoveries, unheard, with_recovery, heard, choice}
+use Rattle.record.specs.Replies.{no_replies, unheard, heard, with_timestamp, decision, with_member, newcomer}
+use Rattle.record.specs.Choosing.{with_recovery, choice}
 use Rattle.record.specs.Rows.{no_proposals, no_acks, in_phase, with_change, at_timestamp, at_ballots, with_promise, with_replies}
-use Rattle.schedule.specs.declared.phase.Phase.{Phase}
-use Rattle.schedule.specs.declared.phase.Phase.TheVariants.{Payload, Propose, RecoverR, RecoverP, Commit}
 use Rattle.record.specs.declared.proposals.Decision.{Decision}
 use Rattle.record.specs.declared.proposals.Decision.TheVariants.{Fast, Slow}
 use Rattle.record.specs.declared.recoveries.Recovery.{Recovery}
@@ -41,15 +41,6 @@ abbrev pub Settled : {A : Type 0} → Result (Left A) Refusal → Row → Clock 
 Settled (Ok done) row clock answer row_after clock_after =
     (answer ≡ Ok done.answer) × (row_after ≡ done.row) × (clock_after ≡ done.clock)
 Settled (Err why) row clock answer row_after clock_after = (answer ≡ Err why) × (row_after ≡ row) × (clock_after ≡ clock)
-
--- the same, where nothing is refused
-abbrev pub Done : {A : Type 0} → Left A → A → Row → Clock → Type 0
-Done done answer row_after clock_after = (answer ≡ done.answer) × (row_after ≡ done.row) × (clock_after ≡ done.clock)
-
--- the same, where the clock refuses
-abbrev pub Joined : Result (Row × Clock) ClockFault → Row → Clock → Result (Unit {0}) ClockFault → Row → Clock → Type 0
-Joined (Ok done) row clock answer row_after clock_after = (answer ≡ Ok tt) × (row_after ≡ done.0) × (clock_after ≡ done.1)
-Joined (Err fault) row clock answer row_after clock_after = (answer ≡ Err fault) × (row_after ≡ row) × (clock_after ≡ clock)
 
 abbrev pub in_phase? : ℕ → Row → Bool
 in_phase? n w = phase_number w.phase == n
@@ -77,7 +68,7 @@ leading own t b w = with_replies w.proposals (record { from = record { bits = ju
 -- a reply to a proposal is noted
 abbrev pub with_proposal : ℕ → ℕ → Row → Row
 with_proposal c t w =
-    with_replies (record { timestamps = with_timestamp w.proposals.timestamps c t }) w.acks w.recoveries w
+    with_replies (record { replies = with_timestamp w.proposals.replies c t }) w.acks w.recoveries w
 
 -- an acceptance is noted
 abbrev pub with_ack : ℕ → Row → Row
@@ -87,67 +78,79 @@ with_ack c w = with_replies w.proposals (record { from = record { bits = with_me
 abbrev pub with_heard : ℕ → Recovery → Row → Row
 with_heard c x w = with_replies w.proposals w.acks (record { replies = with_recovery w.recoveries.replies c x }) w
 
--- MPropose at ballot 0: the timestamp proposed is the reply
-abbrev pub proposed : ℕ → ℕ → ℕ → Change → ControllerSet → Row → Result (ℕ × Clock) ClockFault → Result (Left (Option Sent)) Refusal
-proposed own s id c set w (Ok p) =
-    Ok (left (promised Propose p.0 (with_change c set w)) p.1 (Some (to_one s (MProposeAck own id p.0))))
-proposed own s id c set w (Err fault) = Err (TimestampsSpent fault)
+-- a change and its fast set become known, and the next timestamp not below t is promised
+abbrev pub promising : Change → ControllerSet → Row → Result (ℕ × Clock) ClockFault → Result (Left ℕ) ClockFault
+promising c set w (Ok p) = Ok (left (promised Propose p.0 (with_change c set w)) p.1 p.0)
+promising c set w (Err fault) = Err fault
+
+abbrev pub offered : Change → ControllerSet → ℕ → Row → Clock → Result (Left ℕ) ClockFault
+offered c set t w clock = promising c set w (proposal t clock)
+
+-- MPropose at ballot 0: the timestamp promised is the reply
+abbrev pub proposed : ℕ → ℕ → ℕ → Result (Left ℕ) ClockFault → Result (Left (Option Sent)) Refusal
+proposed own s id (Ok done) = Ok (left done.row done.clock (Some (to_one s (MProposeAck own id done.answer))))
+proposed own s id (Err fault) = Err (TimestampsSpent fault)
 
 -- MConsensus: t is accepted at ballot b, and its owner is told
 abbrev pub followed : ℕ → ℕ → ℕ → ℕ → ℕ → Row → Clock → Left (Option Sent)
 followed own s id t b w clock = left (accepted t b w) (bumped t clock) (Some (to_one s (MConsensusAck own id b)))
 
+-- t is committed, and the others are told
+abbrev pub settling : ℕ → ℕ → ℕ → ℕ → Row → Clock → Left (Option Sent)
+settling r own id t w clock = left (committed t w) (bumped t clock) (Some (to_others r own (MCommit own id t)))
+
+-- t is accepted here at ballot b, and the others are asked to
+abbrev pub asking : ℕ → ℕ → ℕ → ℕ → ℕ → Row → Clock → Left (Option Sent)
+asking r own id t b w clock = left (leading own t b w) (bumped t clock) (Some (to_others r own (MConsensus own id t b)))
+
 -- after a reply to the proposal: commit at once, have it accepted, or wait for the others
 abbrev pub decided : ℕ → ℕ → ℕ → Row → Clock → Option Decision → Left (Option Sent)
 decided r own id w clock None = left w clock None
-decided r own id w clock (Some (Fast t)) = left (committed t w) (bumped t clock) (Some (to_others r own (MCommit own id t)))
-decided r own id w clock (Some (Slow t)) =
-    left (leading own t own w) (bumped t clock) (Some (to_others r own (MConsensus own id t own)))
+decided r own id w clock (Some (Fast t)) = settling r own id t w clock
+decided r own id w clock (Some (Slow t)) = asking r own id t own w clock
 
 unfoldable pub gathered : ℕ → ℕ → ℕ → ℕ → Row → Clock → Left (Option Sent)
-gathered r f own id w clock = decided r own id w clock (decision f w.set.bits w.proposals.timestamps)
+gathered r f own id w clock = decided r own id w clock (decision f w.set.bits w.proposals.replies)
 
 -- after an acceptance: with f + 1 of them the timestamp is committed
 abbrev pub backed : ℕ → ℕ → ℕ → ℕ → Row → Clock → Left (Option Sent)
 backed r f own id w clock =
-    cond (nat_le (slow_quorum f) (size w.acks.from.bits))
-    (left (committed w.timestamp w) (bumped w.timestamp clock) (Some (to_others r own (MCommit own id w.timestamp))))
-    (left w clock None)
+    cond (nat_le (slow_quorum f) (size w.acks.from.bits)) (settling r own id w.timestamp w clock) (left w clock None)
 
 -- a ballot is joined
 abbrev pub at_ballot : ℕ → Row → Row
 at_ballot b w = at_ballots b w.accepted w
 
 -- phase payload takes a promise of its own
-abbrev pub recovering : ℕ → Row → Result (ℕ × Clock) ClockFault → Result (Row × Clock) ClockFault
-recovering b w (Ok p) = Ok (at_ballot b (promised RecoverR p.0 w), p.1)
+abbrev pub recovering : ℕ → Row → Result (ℕ × Clock) ClockFault → Result (Left (Unit {0})) ClockFault
+recovering b w (Ok p) = Ok (left (at_ballot b (promised RecoverR p.0 w)) p.1 tt)
 recovering b w (Err fault) = Err fault
 
 -- Joining ballot b. From ballot 0, phase payload becomes recover-r with a promise, and phase propose becomes recover-p.
-abbrev pub joining : ℕ → Row → Clock → Result (Row × Clock) ClockFault
+abbrev pub joining : ℕ → Row → Clock → Result (Left (Unit {0})) ClockFault
 joining b w clock =
     cond (w.ballot == 0 && in_phase? 1 w) (recovering b w (proposal 0 clock))
-    (cond (w.ballot == 0 && in_phase? 2 w) (Ok (at_ballot b (in_phase RecoverP w), clock))
-    (Ok (at_ballot b w, clock)))
+    (cond (w.ballot == 0 && in_phase? 2 w) (Ok (left (at_ballot b (in_phase RecoverP w)) clock tt))
+    (Ok (left (at_ballot b w) clock tt)))
 
 -- MRec: whoever joins tells its timestamp, its phase and the ballot at which it had accepted
-abbrev pub rejoined : ℕ → ℕ → ℕ → ℕ → Result (Row × Clock) ClockFault → Result (Left (Option Sent)) Refusal
-rejoined own s id b (Ok p) =
-    Ok (left p.0 p.1 (Some (to_one s (MRecAck own id p.0.timestamp (phase_number p.0.phase) p.0.accepted b))))
+abbrev pub rejoined : ℕ → ℕ → ℕ → ℕ → Result (Left (Unit {0})) ClockFault → Result (Left (Option Sent)) Refusal
+rejoined own s id b (Ok done) =
+    let w : Row = done.row in
+    Ok (left w done.clock (Some (to_one s (MRecAck own id w.timestamp (phase_number w.phase) w.accepted b))))
 rejoined own s id b (Err fault) = Err (TimestampsSpent fault)
 
 -- after a reply to the take-over: with r − f of them the choice is accepted here
 abbrev pub chosen : ℕ → ℕ → ℕ → ℕ → ℕ → Row → Clock → Left (Option Sent)
 chosen r f own id b w clock =
-    let t : ℕ = choice (home_or_none r id) w.set.bits w.recoveries.replies in
     cond (nat_le (takeover_quorum r f) (heard w.recoveries.replies))
-    (left (leading own t b w) (bumped t clock) (Some (to_others r own (MConsensus own id t b))))
+    (asking r own id (choice (home_or_none r id) w.set.bits w.recoveries.replies) b w clock)
     (left w clock None)
 
 -- MRecAck: the reply is noted, under the phase that its number stands for
 abbrev pub replied : ℕ → ℕ → ℕ → ℕ → ℕ → ℕ → ℕ → ℕ → Row → Clock → Option Phase → Result (Left (Option Sent)) Refusal
 replied r f own s id t a b w clock (Some p) =
-    Ok (chosen r f own id b (with_heard s (record { given = true; timestamp = t; phase = p; accepted = a }) w) clock)
+    Ok (chosen r f own id b (with_heard s (record { timestamp = t; phase = p; accepted = a }) w) clock)
 replied r f own s id t a b w clock None = Err OutOfStep
 
 -- the commit of a settled change, for one that still asks
@@ -156,7 +159,7 @@ told_commit own s id w = Some (to_one s (MCommit own id w.timestamp))
 
 -- A reply to the proposal counts: at the home, from a member of the fast set that has not replied.
 abbrev pub counts_proposal : ℕ → ℕ → ℕ → ℕ → Row → Bool
-counts_proposal r own id s w = at_home r own id && member w.set.bits s && fresh w.proposals.timestamps s
+counts_proposal r own id s w = at_home r own id && member w.set.bits s && unheard w.proposals.replies s
 
 -- An acceptance at ballot b counts: b was accepted here and belongs here, and the sender has not accepted before.
 abbrev pub counts_ack : ℕ → ℕ → ℕ → ℕ → Row → Bool
@@ -173,7 +176,7 @@ step r f own (MPayload s id c set) w clock =
     cond (in_phase? 0 w && not (member set.bits own)) (Ok (left (known c set w) clock None)) (Err OutOfStep)
 step r f own (MPropose s id c set t) w clock =
     cond (in_phase? 0 w && member set.bits own)
-    (cond (w.ballot == 0) (proposed own s id c set w (proposal t clock)) (Ok (left (known c set w) clock None)))
+    (cond (w.ballot == 0) (proposed own s id (offered c set t w clock)) (Ok (left (known c set w) clock None)))
     (Err OutOfStep)
 step r f own (MProposeAck s id t) w clock =
     cond (in_phase? 2 w && w.ballot == 0 && counts_proposal r own id s w)
@@ -198,20 +201,21 @@ step r f own (MRecAck s id t p a b) w clock =
 step r f own (MPromises s p) w clock = Err OutOfStep
 
 -- Enter: phase propose with the next timestamp, and the own reply noted.
-abbrev pub begun : ℕ → Change → ControllerSet → Row → Result (ℕ × Clock) ClockFault → Result (Left ℕ) Refusal
-begun own c set w (Ok p) = Ok (left (with_proposal own p.0 (promised Propose p.0 (with_change c set w))) p.1 p.0)
-begun own c set w (Err fault) = Err (TimestampsSpent fault)
+abbrev pub begun : ℕ → Result (Left ℕ) ClockFault → Result (Left ℕ) Refusal
+begun own (Ok done) = Ok (left (with_proposal own done.answer done.row) done.clock done.answer)
+begun own (Err fault) = Err (TimestampsSpent fault)
 
 abbrev pub entering : ℕ → Change → ControllerSet → Row → Clock → Result (Left ℕ) Refusal
-entering own c set w clock = begun own c set w (proposal (clock.time + 1) clock)
+entering own c set w clock = begun own (offered c set (clock.time + 1) w clock)
 
 -- Take over: the next ballot that belongs here is joined, earlier replies are dropped, and the own reply is the first.
 abbrev pub own_reply : Row → Recovery
-own_reply w = record { given = true; timestamp = w.timestamp; phase = w.phase; accepted = w.accepted }
+own_reply w = record { timestamp = w.timestamp; phase = w.phase; accepted = w.accepted }
 
-abbrev pub taken : ℕ → ℕ → Result (Row × Clock) ClockFault → Result (Left ℕ) Refusal
-taken own b (Ok p) =
-    Ok (left (with_replies no_proposals no_acks (record { replies = with_recovery no_recoveries own (own_reply p.0) }) p.0) p.1 b)
+abbrev pub taken : ℕ → ℕ → Result (Left (Unit {0})) ClockFault → Result (Left ℕ) Refusal
+taken own b (Ok done) =
+    let w : Row = done.row in
+    Ok (left (with_replies no_proposals no_acks (record { replies = with_recovery no_replies own (own_reply w) }) w) done.clock b)
 taken own b (Err fault) = Err (TimestampsSpent fault)
 
 abbrev pub taken_at : ℕ → Row → Clock → Option ℕ → Result (Left ℕ) Refusal

@@ -3,9 +3,9 @@
 ghost use Rattle.std.specs.Prelude.{◌≡◌};
 ghost use Rattle.steps.specs.Steps.{Settled, entering};
 
-use crate::stepping::{keep, promise};
+use crate::turn::Turn;
 use promise_words::{Clock, ClockFault};
-use record::{Phase, Row};
+use record::Row;
 use schedule::{Change, ControllerSet};
 use sites::refusal::Refusal;
 use sites::site::Site;
@@ -20,9 +20,9 @@ pub fn begin(
 ) -> Result<u32, Refusal>
     ensures { Settled (entering site.now.own change.now set.now row.old clock.old) row.old clock.old result row.new clock.new }
 {
-    let t = clock.propose(clock.time.saturating_add(1))?;
-    keep(row, change, set);
-    promise(row, Phase::Propose, t);
-    row.proposals.note(site.own, t);
+    let least = clock.time.saturating_add(1);
+    let mut turn = Turn { site, row, clock };
+    let t = turn.propose(change, set, least)?;
+    turn.row.proposals.note_timestamp(site.own, t);
     Ok(t)
 }

@@ -4,5 +4,6 @@
 pub mod entry;
 pub mod stepping;
 pub mod takeover;
+mod turn;
 
 pub use stepping::step;

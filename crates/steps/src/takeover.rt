@@ -3,7 +3,7 @@
 ghost use Rattle.std.specs.Prelude.{◌≡◌};
 ghost use Rattle.steps.specs.Steps.{Settled, taking_over};
 
-use crate::stepping::join;
+use crate::turn::Turn;
 use promise_words::{Clock, ClockFault};
 use record::{Acks, Proposals, Recoveries, Recovery, Row};
 use sites::refusal::Refusal;
@@ -16,21 +16,17 @@ pub fn take_over(site: &Site, row: &mut Row, clock: &mut Clock) -> Result<u32, R
     if !row.phase.is_pending() {
         return Err(Refusal::OutOfStep);
     }
-    let Some(ballot) = site.next_ballot(row.ballot) else {
-        return Err(Refusal::BallotsSpent);
+    let ballot = site.next_ballot(row.ballot).ok_or(Refusal::BallotsSpent)?;
+    let mut turn = Turn { site, row, clock };
+    turn.join(ballot)?;
+    let own = Recovery {
+        timestamp: turn.row.timestamp,
+        phase: turn.row.phase,
+        accepted: turn.row.accepted,
     };
-    join(row, clock, ballot)?;
-    row.proposals = Proposals::none();
-    row.acks = Acks::none();
-    row.recoveries = Recoveries::none();
-    row.recoveries.note(
-        site.own,
-        Recovery {
-            given: true,
-            timestamp: row.timestamp,
-            phase: row.phase,
-            accepted: row.accepted,
-        },
-    );
+    turn.row.proposals = Proposals::none();
+    turn.row.acks = Acks::none();
+    turn.row.recoveries = Recoveries::none();
+    turn.row.recoveries.note(site.own, Some(own));
     Ok(ballot)
 }

@@ -1,9 +1,9 @@
-use Rattle.std.proofs.Common.{◌≡◌, drop}
+use Rattle.std.proofs.Common.{◌≡◌, take}
 use Rattle.service_runs.specs.Laws.{ran}
 use Rattle.service_runs.proofs.run.run.Given as goal
 
--- what is left leads to the end of the whole run
+-- the run so far
 abbrev pub invariant-loop-change : goal.invariant-loop-change
 invariant-loop-change g l =
     let s = g.S.Service in
-    ran s.next (s.meaning l.service) (drop l.change-index l.changes) ≡ ran s.next (s.meaning l.initial.service) l.changes
+    s.meaning l.service ≡ ran s.next (s.meaning l.initial.service) (take l.change-index l.changes)
