@@ -69,6 +69,7 @@ impl Book {
     }
 
     /// Who has the say of an hour, for a service under final say: 0 nobody, else the department.
+    // kept: 0 for nobody as in an outcome, since `None` says already that no final say stands here.
     pub fn say(&self, hour: u32) -> Option<u32>
         ensures { result ≡ book_say (book_meaning self.now) hour }
     {
