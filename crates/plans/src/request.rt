@@ -13,6 +13,7 @@ pub enum Request {
     /// A change, whatever its numbers are.
     Carrying(Change),
     /// What an hour and slot hold.
+    // kept: two numbers, since whoever takes them, as `Service::read`, would take a struct of both apart at once.
     Reading(u32, u32),
 }
 
@@ -61,6 +62,7 @@ pub fn asked(line: &str) -> Result<Request, Misread>
     ensures { (words : List (List ℕ)) × FirstWords 6 line.now words × (result ≡ asked_by words) }
 {
     let mut words = line.split_whitespace();
+    // kept: six calls, since with `array::from_fn` and a closure that calls `next` the goal stays open.
     asked_of([
         words.next(),
         words.next(),
