@@ -6,4 +6,5 @@ pub mod Listed
 pub mod Paired
 pub mod Ranged
 pub mod Shown
+pub mod Taken
 pub mod Words
