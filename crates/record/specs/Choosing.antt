@@ -5,9 +5,9 @@ use Rattle.schedule.specs.declared.set.ControllerSet.{ControllerSet}
 use Rattle.ranking.specs.Orders.{accepted_eligible, accepted_before}
 use Rattle.ranking.specs.Ranking.{first_in_rank}
 use Rattle.ranking.specs.declared.accepted.Accepted.{Accepted}
-use Rattle.record.specs.Phases.{phase_number}
+use Rattle.schedule.specs.Phases.{phase_number}
 use Rattle.record.specs.Replies.{seats}
-use Rattle.record.specs.declared.phase.Phase.TheVariants.{Start}
+use Rattle.schedule.specs.declared.phase.Phase.TheVariants.{Start}
 use Rattle.record.specs.declared.recoveries.Recovery.{Recovery}
 
 abbrev pub no_recovery : Recovery

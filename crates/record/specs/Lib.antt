@@ -1,4 +1,3 @@
-pub mod Phases
 pub mod Replies
 pub mod Choosing
 pub mod Rows

@@ -5,8 +5,8 @@ use Rattle.schedule.specs.declared.set.ControllerSet.{ControllerSet}
 use Rattle.record.specs.Replies.{no_timestamps}
 use Rattle.record.specs.Choosing.{no_recoveries}
 use Rattle.record.specs.declared.acks.Acks.{Acks}
-use Rattle.record.specs.declared.phase.Phase.{Phase}
-use Rattle.record.specs.declared.phase.Phase.TheVariants.{Start}
+use Rattle.schedule.specs.declared.phase.Phase.{Phase}
+use Rattle.schedule.specs.declared.phase.Phase.TheVariants.{Start}
 use Rattle.record.specs.declared.proposals.Proposals.{Proposals}
 use Rattle.record.specs.declared.recoveries.Recoveries.{Recoveries}
 use Rattle.record.specs.declared.row.Row.{Row}

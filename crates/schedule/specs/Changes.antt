@@ -1,10 +1,13 @@
--- A change of the day: the numbers of departments and kinds, and the limits of its fields.
-use Rattle.std.specs.Prelude.{ℕ, Bool, cond, ◌&&◌, Some, None, Option, ◌==◌, nat_le, nat_lt}
+-- A change of the day: the numbers and names of departments and kinds, and the limits of its fields.
+use Rattle.std.specs.Prelude.{ℕ, Bool, cond, ◌&&◌, List, Some, None, codes, Option, ◌==◌, nat_le, nat_lt}
+use Rattle.std.specs.Str.{bytes_eq}
 use Rattle.schedule.specs.declared.change.Change.{Change}
 use Rattle.schedule.specs.declared.change.Department.{Department}
 use Rattle.schedule.specs.declared.change.Department.TheVariants.{Sales, Programming}
 use Rattle.schedule.specs.declared.change.Kind.{Kind}
 use Rattle.schedule.specs.declared.change.Kind.TheVariants.{Put, Clear, Replace, Claim, Yield}
+use Rattle.schedule.specs.declared.unknown.UnknownName.{UnknownName}
+use Rattle.schedule.specs.declared.unknown.UnknownNumber.{UnknownNumber}
 
 abbrev pub department_number : Department → ℕ
 department_number Sales = 1
@@ -24,6 +27,36 @@ abbrev pub kind_of : ℕ → Option Kind
 kind_of n =
     cond (n == 1) (Some Put)
     (cond (n == 2) (Some Clear) (cond (n == 3) (Some Replace) (cond (n == 4) (Some Claim) (cond (n == 5) (Some Yield) None))))
+
+-- names
+abbrev pub department_name : Department → List ℕ
+department_name Sales = codes "sales"
+department_name Programming = codes "programming"
+
+abbrev pub department_named : List ℕ → Option Department
+department_named w = cond (bytes_eq w (codes "sales")) (Some Sales) (cond (bytes_eq w (codes "programming")) (Some Programming) None)
+
+abbrev pub kind_name : Kind → List ℕ
+kind_name Put = codes "put"
+kind_name Clear = codes "clear"
+kind_name Replace = codes "replace"
+kind_name Claim = codes "claim"
+kind_name Yield = codes "yield"
+
+abbrev pub kind_named : List ℕ → Option Kind
+kind_named w =
+    cond (bytes_eq w (codes "put")) (Some Put)
+    (cond (bytes_eq w (codes "clear")) (Some Clear)
+    (cond (bytes_eq w (codes "replace")) (Some Replace)
+    (cond (bytes_eq w (codes "claim")) (Some Claim) (cond (bytes_eq w (codes "yield")) (Some Yield) None))))
+
+-- what is answered for a number that stands for nothing
+abbrev pub unknown : ℕ → UnknownNumber
+unknown n = record { 0 = n }
+
+-- what is answered for a name that nothing has
+abbrev pub nameless : UnknownName
+nameless = record {}
 
 -- hours of a day and slots of an hour, both counted from 0; the greatest value
 abbrev pub hours : ℕ

@@ -1,4 +1,5 @@
 pub mod Changes
 pub mod Group
 pub mod Making
+pub mod Phases
 pub mod Sets

@@ -1,7 +1,11 @@
-//! A change of the day, and the words for its department and kind.
+//! A change of the day, and the departments and kinds that its numbers stand for.
 
-ghost use Rattle.std.specs.Prelude.{◌≡◌};
-ghost use Rattle.schedule.specs.Changes.{change_fits, department_number, department_of, kind_number, kind_of};
+ghost use Rattle.std.specs.Prelude.{◌≡◌, Some, ok_or};
+ghost use Rattle.schedule.specs.Changes.{change_fits, department_number, department_of, department_name, department_named, kind_number, kind_of, kind_name, kind_named, unknown, nameless};
+
+use crate::unknown::{UnknownName, UnknownNumber};
+use std::fmt;
+use std::str::FromStr;
 
 /// Hours of a day, counted from 0.
 pub const HOURS: u32 = 24;
@@ -11,7 +15,8 @@ pub const SLOTS: u32 = 12;
 pub const LAST_VALUE: u32 = 999_999;
 
 /// A change as it comes from a line or a panel: its numbers may be anything.
-#[derive(Clone, Copy, PartialEq, Eq, Debug)]
+// kept: a department and a kind are numbers here, since what comes from a line is judged by `fits` and not before.
+#[derive(Clone, Copy, PartialEq, Eq, Debug, Default)]
 pub struct Change {
     pub department: u32,
     pub kind: u32,
@@ -37,35 +42,74 @@ pub enum Kind {
     Yield,
 }
 
-impl Department {
-    /// The number that stands for the department.
-    pub fn number(&self) -> u32
-        ensures { result ≡ department_number self.now }
-    {
-        match self {
+/// The number that stands for a department.
+impl From<Department> for u32 {
+    ghost from_gives = { λ department number. number ≡ department_number department };
+
+    fn from(department: Department) -> u32 {
+        match department {
             Department::Sales => 1,
             Department::Programming => 2,
         }
     }
+}
 
-    /// The department that a number stands for.
-    pub fn of(number: u32) -> Option<Department>
-        ensures { result ≡ department_of number }
-    {
+/// The department that a number stands for.
+impl TryFrom<u32> for Department {
+    type Error = UnknownNumber;
+
+    ghost try_from_gives = { λ number answer. answer ≡ ok_or (department_of number) (unknown number) };
+
+    fn try_from(number: u32) -> Result<Department, UnknownNumber> {
         match number {
-            1 => Some(Department::Sales),
-            2 => Some(Department::Programming),
-            _ => None,
+            1 => Ok(Department::Sales),
+            2 => Ok(Department::Programming),
+            _ => Err(UnknownNumber(number)),
         }
     }
 }
 
-impl Kind {
-    /// The number that stands for the kind.
-    pub fn number(&self) -> u32
-        ensures { result ≡ kind_number self.now }
+impl Department {
+    /// The department's name.
+    pub fn name(&self) -> &'static str
+        ensures { result.now ≡ department_name self.now }
     {
         match self {
+            Department::Sales => "sales",
+            Department::Programming => "programming",
+        }
+    }
+}
+
+impl fmt::Display for Department {
+    ghost output = { λ department. Some (department_name department) };
+
+    fn fmt<W: fmt::Write>(&self, f: &mut fmt::Formatter<W>) -> fmt::Result {
+        f.write_str(self.name())
+    }
+}
+
+/// The department of a name.
+impl FromStr for Department {
+    type Err = UnknownName;
+
+    ghost from_str_gives = { λ text answer. answer ≡ ok_or (department_named text) nameless };
+
+    fn from_str(text: &str) -> Result<Department, UnknownName> {
+        match text {
+            "sales" => Ok(Department::Sales),
+            "programming" => Ok(Department::Programming),
+            _ => Err(UnknownName),
+        }
+    }
+}
+
+/// The number that stands for a kind.
+impl From<Kind> for u32 {
+    ghost from_gives = { λ kind number. number ≡ kind_number kind };
+
+    fn from(kind: Kind) -> u32 {
+        match kind {
             Kind::Put => 1,
             Kind::Clear => 2,
             Kind::Replace => 3,
@@ -73,18 +117,63 @@ impl Kind {
             Kind::Yield => 5,
         }
     }
+}
 
-    /// The kind that a number stands for.
-    pub fn of(number: u32) -> Option<Kind>
-        ensures { result ≡ kind_of number }
-    {
+/// The kind that a number stands for.
+impl TryFrom<u32> for Kind {
+    type Error = UnknownNumber;
+
+    ghost try_from_gives = { λ number answer. answer ≡ ok_or (kind_of number) (unknown number) };
+
+    fn try_from(number: u32) -> Result<Kind, UnknownNumber> {
         match number {
-            1 => Some(Kind::Put),
-            2 => Some(Kind::Clear),
-            3 => Some(Kind::Replace),
-            4 => Some(Kind::Claim),
-            5 => Some(Kind::Yield),
-            _ => None,
+            1 => Ok(Kind::Put),
+            2 => Ok(Kind::Clear),
+            3 => Ok(Kind::Replace),
+            4 => Ok(Kind::Claim),
+            5 => Ok(Kind::Yield),
+            _ => Err(UnknownNumber(number)),
+        }
+    }
+}
+
+impl Kind {
+    /// The kind's name.
+    pub fn name(&self) -> &'static str
+        ensures { result.now ≡ kind_name self.now }
+    {
+        match self {
+            Kind::Put => "put",
+            Kind::Clear => "clear",
+            Kind::Replace => "replace",
+            Kind::Claim => "claim",
+            Kind::Yield => "yield",
+        }
+    }
+}
+
+impl fmt::Display for Kind {
+    ghost output = { λ kind. Some (kind_name kind) };
+
+    fn fmt<W: fmt::Write>(&self, f: &mut fmt::Formatter<W>) -> fmt::Result {
+        f.write_str(self.name())
+    }
+}
+
+/// The kind of a name.
+impl FromStr for Kind {
+    type Err = UnknownName;
+
+    ghost from_str_gives = { λ text answer. answer ≡ ok_or (kind_named text) nameless };
+
+    fn from_str(text: &str) -> Result<Kind, UnknownName> {
+        match text {
+            "put" => Ok(Kind::Put),
+            "clear" => Ok(Kind::Clear),
+            "replace" => Ok(Kind::Replace),
+            "claim" => Ok(Kind::Claim),
+            "yield" => Ok(Kind::Yield),
+            _ => Err(UnknownName),
         }
     }
 }
@@ -94,8 +183,8 @@ impl Change {
     pub fn fits(&self) -> bool
         ensures { result ≡ change_fits self.now }
     {
-        Department::of(self.department).is_some()
-            && Kind::of(self.kind).is_some()
+        Department::try_from(self.department).is_ok()
+            && Kind::try_from(self.kind).is_ok()
             && self.hour < HOURS
             && self.slot < SLOTS
             && self.value <= LAST_VALUE

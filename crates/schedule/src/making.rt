@@ -32,9 +32,6 @@ impl Figures {
     pub fn same(&self, other: &Figures) -> bool
         ensures { ToldApart self.now other.now result }
     {
-        if self.r != other.r {
-            return false;
-        }
-        self.f == other.f
+        self == other
     }
 }

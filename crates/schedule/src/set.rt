@@ -6,7 +6,7 @@ ghost use Rattle.schedule.specs.Sets.{size, member, fast_set};
 use crate::figures::Figures;
 
 /// A set of controllers as a number: bit j - 1 stands for controller j.
-#[derive(Clone, Copy, PartialEq, Eq, Debug)]
+#[derive(Clone, Copy, PartialEq, Eq, Debug, Default)]
 pub struct ControllerSet {
     pub bits: u32,
 }

@@ -10,7 +10,7 @@ use Rattle.promise_words.specs.Stability.{stable_of}
 use Rattle.promise_words.specs.Timestamps.{no_words, with_range}
 use Rattle.promise_words.specs.declared.timestamps.Timestamps.{Timestamps}
 use Rattle.record.specs.Rows.{blank, in_phase, at_ballots}
-use Rattle.record.specs.declared.phase.Phase.TheVariants.{Payload, Propose, RecoverR, Commit}
+use Rattle.schedule.specs.declared.phase.Phase.TheVariants.{Payload, Propose, RecoverR, Commit}
 use Rattle.record.specs.declared.row.Row.{Row}
 use Rattle.services.specs.Makes.{order_next, order_outcome, ledger_outcome}
 use Rattle.services.specs.Places.{Table, no_places, with_place}

@@ -6,7 +6,7 @@ use Rattle.line_format.specs.declared.message.Message.{Message}
 use Rattle.promise_words.specs.Timestamps.{no_words}
 use Rattle.promise_words.specs.declared.clock.Clock.{Clock}
 use Rattle.record.specs.Rows.{blank}
-use Rattle.record.specs.declared.phase.Phase.{Phase}
+use Rattle.schedule.specs.declared.phase.Phase.{Phase}
 use Rattle.record.specs.declared.row.Row.{Row}
 use Rattle.sites.specs.declared.refusal.Refusal.{Refusal}
 use Rattle.sites.specs.declared.sent.Sent.{Sent}

@@ -11,12 +11,12 @@ use Rattle.line_format.specs.declared.message.Message.TheVariants.{MPayload, MPr
 use Rattle.promise_words.specs.Clocks.{proposal, bumped}
 use Rattle.promise_words.specs.declared.clock.Clock.{Clock}
 use Rattle.promise_words.specs.declared.clock.ClockFault.{ClockFault}
-use Rattle.record.specs.Phases.{phase_number, phase_of, pending, settled}
+use Rattle.schedule.specs.Phases.{phase_number, phase_of, pending, settled}
 use Rattle.record.specs.Replies.{fresh, with_timestamp, decision, with_member, newcomer}
 use Rattle.record.specs.Choosing.{no_recoveries, unheard, with_recovery, heard, choice}
 use Rattle.record.specs.Rows.{no_proposals, no_acks, in_phase, with_change, at_timestamp, at_ballots, with_promise, with_replies}
-use Rattle.record.specs.declared.phase.Phase.{Phase}
-use Rattle.record.specs.declared.phase.Phase.TheVariants.{Payload, Propose, RecoverR, RecoverP, Commit}
+use Rattle.schedule.specs.declared.phase.Phase.{Phase}
+use Rattle.schedule.specs.declared.phase.Phase.TheVariants.{Payload, Propose, RecoverR, RecoverP, Commit}
 use Rattle.record.specs.declared.proposals.Decision.{Decision}
 use Rattle.record.specs.declared.proposals.Decision.TheVariants.{Fast, Slow}
 use Rattle.record.specs.declared.recoveries.Recovery.{Recovery}

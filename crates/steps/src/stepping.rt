@@ -2,7 +2,7 @@
 
 ghost use Rattle.std.specs.Prelude.{◌≡◌};
 ghost use Rattle.promise_words.specs.Clocks.{bumped, proposal};
-ghost use Rattle.record.specs.Phases.{phase_of};
+ghost use Rattle.schedule.specs.Phases.{phase_of};
 ghost use Rattle.record.specs.Replies.{decision};
 ghost use Rattle.steps.specs.Steps.{Settled, Joined, Done, known, promised, committed, accepted, leading, with_proposal, decided, gathered, with_ack, backed, joining, rejoined, with_heard, chosen, replied, followed, told_commit, proposed, counts_proposal, counts_ack, counts_recovery, step};
 

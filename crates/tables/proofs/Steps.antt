@@ -5,7 +5,7 @@ use Rattle.std.proofs.lemmas.Bool.{and_left, and_right, cond-true, cond-false, l
 use Rattle.line_format.specs.declared.message.Pair.{Pair}
 use Rattle.line_format.specs.Reading.{no_pair}
 use Rattle.ranking.specs.declared.due.Due.{Due}
-use Rattle.record.specs.Phases.{settled}
+use Rattle.schedule.specs.Phases.{settled}
 use Rattle.record.specs.Rows.{blank}
 use Rattle.record.specs.declared.row.Row.{Row}
 use Rattle.tables.specs.Tables.{pairs_from, own_promises, settled_at, with_pair, with_pairs, due_entry, due_from}

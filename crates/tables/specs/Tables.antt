@@ -8,9 +8,9 @@ use Rattle.promise_words.specs.Timestamps.{with_one, joined}
 use Rattle.ranking.specs.Orders.{due_eligible, due_before}
 use Rattle.ranking.specs.Ranking.{first_in_rank}
 use Rattle.ranking.specs.declared.due.Due.{Due}
-use Rattle.record.specs.Phases.{phase_number, settled}
+use Rattle.schedule.specs.Phases.{phase_number, settled}
 use Rattle.record.specs.Rows.{blank, carried_out}
-use Rattle.record.specs.declared.phase.Phase.TheVariants.{CarriedOut}
+use Rattle.schedule.specs.declared.phase.Phase.TheVariants.{CarriedOut}
 use Rattle.record.specs.declared.row.Row.{Row}
 
 -- nothing is known of any change
