@@ -201,7 +201,9 @@ pub fn read(words: &[&str]) -> Result<Message, NotUnderstood>
     let Some((name, rest)) = words.split_first() else {
         return Err(NotUnderstood::Name);
     };
-    let form = Form::named(*name).ok_or(NotUnderstood::Name)?;
+    let Ok(form) = name.parse::<Form>() else {
+        return Err(NotUnderstood::Name);
+    };
     message(
         form,
         Rest {
