@@ -1,17 +1,15 @@
 -- The words of a line.
-use Rattle.std.proofs.Common.{◌≡◌, ℕ, List, [], ◌∷◌, ◌++◌, length, refl, ap, ◌∙◌, append_assoc, arith, Bor}
-use Rattle.std.proofs.lemmas.List.{map_push}
+use Rattle.std.proofs.Common.{◌≡◌, ℕ, true, not, eqb, List, [], ◌∷◌, length, filter, refl, ap, ◌∙◌, arith}
+use Rattle.std.proofs.lemmas.Bool.{cond-true}
+use Rattle.std.proofs.lemmas.Bool.Decides.{nat_tests}
 use Rattle.line_text.specs.Lists.{filled}
-use Rattle.line_text.specs.Reading.{texts}
 
--- an empty piece is no word
-pub no_word : (x : List ℕ) (ps : List (List ℕ)) → length x ≡ 0 → filled (x ∷ ps) ≡ filled ps
-no_word [] ps e = refl
-no_word (c ∷ cs) ps e = absurd (omega arith)
+-- the pieces that are not empty are words
+pub filled_is : (ps : List (List ℕ)) → filter (λ p. not (eqb (length p) 0)) ps ≡ filled ps
+filled_is [] = refl
+filled_is ([] ∷ ps) = filled_is ps
+filled_is ((c ∷ cs) ∷ ps) = let some : not (eqb (length (c ∷ cs)) 0) ≡ true = grind (arith, nat_tests) in cond-true _ _ _ some ∙ ap (λ l. (c ∷ cs) ∷ l) (filled_is ps)
 
 pub one_word : (x : List ℕ) (ps : List (List ℕ)) → (length x ≡ 0 → ⊥) → filled (x ∷ ps) ≡ x ∷ filled ps
 one_word [] ps e = absurd (e refl)
 one_word (c ∷ cs) ps e = refl
-
-pub pushed_word : (ws : List (Bor (List ℕ))) (w : Bor (List ℕ)) (rest : List (List ℕ)) → texts (ws ++ w ∷ []) ++ rest ≡ texts ws ++ (w.now ∷ rest)
-pushed_word ws w rest = ap (λ l. l ++ rest) (map_push (λ v. v.now) ws w) ∙ append_assoc (texts ws) (w.now ∷ []) rest

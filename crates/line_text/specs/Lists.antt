@@ -2,20 +2,17 @@
 use Rattle.std.specs.Prelude.{◌≡◌, ℕ, Bool, true, false, cond, List, [], ◌∷◌, ◌++◌, Some, None, codes, Option, ◌==◌, String, string_bytes}
 use Rattle.std.specs.declared.alloc.Global.{Global}
 use Rattle.std.specs.Borrow.{Bor}
+use Rattle.std.specs.List.{slice_split}
 use Rattle.std.specs.Str.{bytes_eq}
 
 -- new is old with a text after it
 abbrev pub Appends : String Global → String Global → List ℕ → Type 0
 Appends old new text = string_bytes new ≡ string_bytes old ++ text
 
--- one more byte at the front of what stands before the cut, or of the first piece
+-- one more byte at the front of what stands before the cut
 abbrev pub longer : ℕ → Option (List ℕ × List ℕ) → Option (List ℕ × List ℕ)
 longer x None = None
 longer x (Some p) = Some (x ∷ p.0, p.1)
-
-abbrev pub grown : ℕ → List (List ℕ) → List (List ℕ)
-grown x [] = (x ∷ []) ∷ []
-grown x (p ∷ ps) = (x ∷ p) ∷ ps
 
 -- what stands before and after the first c
 abbrev pub cut : ℕ → List ℕ → Option (List ℕ × List ℕ)
@@ -28,8 +25,7 @@ ends p = (p.0.now, p.1.now)
 
 -- what stands between the c's
 abbrev pub pieces : ℕ → List ℕ → List (List ℕ)
-pieces c [] = [] ∷ []
-pieces c (x ∷ xs) = cond (x == c) ([] ∷ pieces c xs) (grown x (pieces c xs))
+pieces c text = slice_split (λ x. x == c) text
 
 -- the pieces that are not empty
 abbrev pub filled : List (List ℕ) → List (List ℕ)

@@ -18,13 +18,7 @@ use text_forms::Form;
 pub fn words<'a>(heap: Global, line: &'a str) -> Result<Vec<&'a str>, AllocError>
     ensures { IfOk result (λ given. texts given.items ≡ words line.now) }
 {
-    let mut words = Vec::new(heap);
-    for word in line.split(' ') {
-        if !word.is_empty() {
-            words.push(word)?;
-        }
-    }
-    Ok(words)
+    line.split(' ').filter(|word| !word.is_empty()).collect(heap)
 }
 
 fn payload(rest: Rest) -> Result<Message, NotUnderstood>
