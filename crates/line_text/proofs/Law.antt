@@ -6,7 +6,7 @@ use Rattle.schedule.specs.Changes.{hour_fits, slot_fits, value_fits}
 use Rattle.schedule.specs.Group.{id_fits, timestamp_fits, ballot_fits}
 use Rattle.line_format.specs.Limits.{sender_fits, set_fits, accepted_fits, pairs_fit}
 use Rattle.line_format.specs.declared.limits.Field.{Field}
-use Rattle.line_format.specs.declared.limits.Field.TheVariants.{Sender, Id, Department, Kind, Hour, Slot, Value, Set, Timestamp, Ballot, Phase, Accepted, Detached, Pairs}
+use Rattle.line_format.specs.declared.limits.Field.TheVariants.{Sender, Id, Hour, Slot, Value, Set, Timestamp, Ballot, Phase, Accepted, Detached, Pairs}
 use Rattle.line_format.specs.declared.message.Message.{Message}
 use Rattle.line_format.specs.declared.message.Message.TheVariants.{MPayload, MPropose, MProposeAck, MCommit, MConsensus, MConsensusAck, MRec, MRecAck, MPromises}
 use Rattle.line_format.specs.declared.message.Promises.{Promises}

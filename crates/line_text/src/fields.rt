@@ -61,7 +61,10 @@ fn named(field: Field, text: &str) -> Option<u32>
     ensures { result ≡ named field text.now }
 {
     match field {
-        Field::Department => text.parse::<Department>().ok().map(|known| u32::from(known)),
+        Field::Department => text
+            .parse::<Department>()
+            .ok()
+            .map(|known| u32::from(known)),
         Field::Kind => text.parse::<Kind>().ok().map(|known| u32::from(known)),
         Field::Phase => pending(text.parse::<Phase>().ok()).map(|known| u32::from(known)),
         _ => None,

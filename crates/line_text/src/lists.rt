@@ -57,7 +57,11 @@ impl Gathering for ControllerSet {
 }
 
 /// One more piece of a list, after a comma where it is not the first.
-pub(crate) fn add<P: fmt::Display>(first: bool, piece: &P, out: &mut String) -> Result<(), AllocError>
+pub(crate) fn add<P: fmt::Display>(
+    first: bool,
+    piece: &P,
+    out: &mut String,
+) -> Result<(), AllocError>
     ensures { OnOk result (IfSome (P.output piece.now) (λ text. Appends out.old out.new (comma first ++ text))) }
 {
     if first {

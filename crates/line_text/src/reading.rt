@@ -18,7 +18,9 @@ use text_forms::Form;
 pub fn words<'a>(heap: Global, line: &'a str) -> Result<Vec<&'a str>, AllocError>
     ensures { IfOk result (λ given. texts given.items ≡ words line.now) }
 {
-    line.split(' ').filter(|word| !word.is_empty()).collect(heap)
+    line.split(' ')
+        .filter(|word| !word.is_empty())
+        .collect(heap)
 }
 
 fn payload(rest: Rest) -> Result<Message, NotUnderstood>
@@ -51,7 +53,17 @@ fn payload(rest: Rest) -> Result<Message, NotUnderstood>
 fn propose(rest: Rest) -> Result<Message, NotUnderstood>
     ensures { result ≡ propose (texts (iter_rest rest.entry.words)) }
 {
-    let [sender, id, department, kind, hour, slot, value, bits, timestamp] = rest.all(&[
+    let [
+        sender,
+        id,
+        department,
+        kind,
+        hour,
+        slot,
+        value,
+        bits,
+        timestamp,
+    ] = rest.all(&[
         Field::Sender,
         Field::Id,
         Field::Department,
@@ -198,10 +210,5 @@ pub fn read(words: &[&str]) -> Result<Message, NotUnderstood>
     let Ok(form) = name.parse::<Form>() else {
         return Err(NotUnderstood::Name);
     };
-    message(
-        form,
-        Rest {
-            words: rest.iter(),
-        },
-    )
+    message(form, Rest { words: rest.iter() })
 }

@@ -28,7 +28,7 @@ unfolding no_words
 returns-in_err-detached c =
     let ws = texts (iter_rest c.args.rest.words) in
     let refused : Err c.in_err-detached.field-0.0 ≡ promises ws =
-        by_parts ws _ _ _ (Ok c.in_ok-sender.sender) (Err c.in_err-detached.field-0.0) _ c.number.ensures.left refl refl (sym c.in_ok-sender.was ∙ c.number.ensures.given) (sym c.in_err-detached.was ∙ c.list.ensures.given) refl in
+    by_parts ws _ _ _ (Ok c.in_ok-sender.sender) (Err c.in_err-detached.field-0.0) _ c.number.ensures.left refl refl (sym c.in_ok-sender.was ∙ c.number.ensures.given) (sym c.in_err-detached.was ∙ c.list.ensures.given) refl in
     search (rules, refused)
 
 pub returns : goal.returns
