@@ -1,11 +1,12 @@
 -- A field as a word, read back: its number is the one that was shown, and its text has no space.
-use Rattle.std.proofs.Common.{◌≡◌, ℕ, zero, suc, ◌^◌, ◌<◌, ◌≤◌, Bool, true, false, not, ◌&&◌, eqb, ltb, List, [], ◌∷◌, ◌++◌, length, get_or, Some, None, Ok, decimal, Option, sym, refl, ap, ◌∙◌, subst, ⊎_elim, arith}
+use Rattle.std.proofs.Common.{◌≡◌, ℕ, zero, suc, ◌^◌, ◌<◌, ◌≤◌, Bool, true, false, not, ◌&&◌, eqb, List, [], ◌∷◌, ◌++◌, length, get_or, Some, None, Ok, decimal, Option, sym, refl, ap, ◌∙◌, subst, ⊎_elim, arith}
 use Rattle.std.proofs.iter.Next.{first_way}
 use Rattle.std.proofs.lemmas.Fmt.{decimal_digit, decimal_nonempty, first_decimal, digits_decimal, digits_value-decimal}
 use Rattle.std.proofs.lemmas.Slice.Eq.{bytes_eq-Decides}
 use Rattle.std.proofs.lemmas.Bool.{cases_lt}
 use Rattle.std.proofs.lemmas.Bool.Decides.{nat_tests}
 use Rattle.std.specs.Fmt.{digits}
+use Rattle.std.specs.Option.{ok_or}
 use Rattle.std.specs.Str.{all_ascii_digits}
 use Rattle.schedule.specs.Changes.{department_fits, kind_fits}
 use Rattle.line_format.specs.Limits.{phase_fits}
@@ -13,9 +14,10 @@ use Rattle.line_format.specs.declared.limits.Field.{Field}
 use Rattle.line_format.specs.declared.limits.Field.TheVariants.{Sender, Id, Department, Kind, Hour, Slot, Value, Set, Timestamp, Ballot, Phase, Accepted, Detached, Pairs}
 use Rattle.line_text.specs.Labels.{label}
 use Rattle.text_forms.specs.Numbers.{number, read_on}
-use Rattle.line_text.specs.Reading.{value_at, number_at, then, given}
+use Rattle.line_text.specs.Reading.{value_first, number_first, then}
 use Rattle.line_text.specs.Sets.{set_number, set_text, members_from}
 use Rattle.line_text.specs.Values.{number_of, number_text, value_after, value_in, word}
+use Rattle.line_text.specs.declared.fault.NotUnderstood.TheVariants as fault
 use Rattle.line_text.proofs.Cuts.{cut_at}
 use Rattle.text_forms.proofs.Numerals.{own, number_of_parsed}
 
@@ -145,11 +147,11 @@ value_back f v =
     ap (value_after f) (cut_at 61 (label f) v (lacks_at 61 (label f) (label_plain f).0))
     ∙ sym (first_way _ _ ((bytes_eq-Decides (label f) (label f)).1 refl) refl)
 
-pub value_at_back : (ws : List (List ℕ)) (at : ℕ) (f : Field) (v : List ℕ) → ltb at (length ws) ≡ true → get_or ws at [] ≡ word f v → value_at ws at f ≡ Ok v
-unfolding value_at
-value_at_back ws at f v inside got = sym (first_way _ _ inside (sym (ap (value_in f) got ∙ value_back f v)))
+pub value_first_back : (f : Field) (v : List ℕ) (ws : List (List ℕ)) → value_first f (word f v ∷ ws) ≡ Ok v
+unfolding value_first
+value_first_back f v ws = value_back f v
 
-pub number_at_back : (ws : List (List ℕ)) (at : ℕ) (f : Field) (n : ℕ) → ltb at (length ws) ≡ true → get_or ws at [] ≡ word f (number_text f n) → number_of f (number_text f n) ≡ Some n → number_at ws at f ≡ Ok n
-unfolding number_at
-number_at_back ws at f n inside got back =
-    ap (λ r. then r (λ v. given f (number_of f v))) (value_at_back ws at f (number_text f n) inside got) ∙ ap (given f) back
+pub number_first_back : (f : Field) (n : ℕ) (ws : List (List ℕ)) → Good f n → number_first f (word f (number_text f n) ∷ ws) ≡ Ok n
+unfolding number_first
+number_first_back f n ws g =
+    ap (λ r. then r (λ v. ok_or (number_of f v) (fault.Value f))) (value_first_back f (number_text f n) ws) ∙ ap (λ o. ok_or o (fault.Value f)) g.1

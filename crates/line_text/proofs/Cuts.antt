@@ -3,9 +3,10 @@ use Rattle.std.proofs.Common.{◌≡◌, ℕ, suc, ◌<◌, Bool, true, false, c
 use Rattle.std.proofs.lemmas.Str.Pattern.{NoCharPasses-char, drop_at_char}
 use Rattle.std.proofs.lemmas.Bool.Decides.{eqb_tells}
 use Rattle.std.specs.Str.Pattern.{FindsChar, IsSplitAtFirstMatch}
+use Rattle.std.specs.List.{onto_first}
 use Rattle.std.specs.Option.{option_map}
 use Rattle.std.specs.Str.Iter.{LacksByte}
-use Rattle.line_text.specs.Lists.{longer, grown, cut, ends, pieces}
+use Rattle.line_text.specs.Lists.{longer, cut, ends, pieces}
 
 unlike : {A : Type 0} (x c : ℕ) (a b : A) → (x ≡ c → ⊥) → cond (eqb x c) a b ≡ b
 unlike x c a b apart = let e = eqb_tells x c in grind arith
@@ -27,12 +28,12 @@ cut_at c (x ∷ xs) ys lacks =
 
 pub pieces_whole : (c : ℕ) (xs : List ℕ) → LacksByte c xs → pieces c xs ≡ xs ∷ []
 pieces_whole c [] lacks = refl
-pieces_whole c (x ∷ xs) lacks = unlike x c ([] ∷ pieces c xs) (grown x (pieces c xs)) (lacks 0 (omega arith)) ∙ ap (grown x) (pieces_whole c xs (later c x xs lacks))
+pieces_whole c (x ∷ xs) lacks = unlike x c ([] ∷ pieces c xs) (onto_first x (pieces c xs)) (lacks 0 (omega arith)) ∙ ap (onto_first x) (pieces_whole c xs (later c x xs lacks))
 
 pub pieces_at : (c : ℕ) (xs ys : List ℕ) → LacksByte c xs → pieces c (xs ++ (c ∷ ys)) ≡ xs ∷ pieces c ys
-pieces_at c [] ys lacks = alike c ([] ∷ pieces c ys) (grown c (pieces c ys))
+pieces_at c [] ys lacks = alike c ([] ∷ pieces c ys) (onto_first c (pieces c ys))
 pieces_at c (x ∷ xs) ys lacks =
-    unlike x c ([] ∷ pieces c (xs ++ (c ∷ ys))) (grown x (pieces c (xs ++ (c ∷ ys)))) (lacks 0 (omega arith)) ∙ ap (grown x) (pieces_at c xs ys (later c x xs lacks))
+    unlike x c ([] ∷ pieces c (xs ++ (c ∷ ys))) (onto_first x (pieces c (xs ++ (c ∷ ys)))) (lacks 0 (omega arith)) ∙ ap (onto_first x) (pieces_at c xs ys (later c x xs lacks))
 
 -- what `split_once` answers
 pub cut_is : (c : ℕ) (bs : List ℕ) (r : Option (Bor (List ℕ) × Bor (List ℕ))) → MatchOption r (LacksByte c bs) (λ x. (bs ≡ x.0.now ++ (c ∷ x.1.now)) × LacksByte c x.0.now) → option_map ends r ≡ cut c bs

@@ -1,27 +1,30 @@
 -- The text of a message, read back, is the message.
-use Rattle.std.proofs.Common.{◌≡◌, ℕ, ◌^◌, ◌<◌, ◌≤◌, Bool, true, false, cond, not, ◌&&◌, ltb, List, [], ◌∷◌, ◌++◌, map, length, is_some, Some, Ok, codes, decimal, Option, refl, ap, ◌∙◌, append_assoc, append-nil, arith, length-append, pow_mono}
+use Rattle.std.proofs.Common.{◌≡◌, ℕ, ◌^◌, ◌<◌, ◌≤◌, Bool, true, false, cond, not, ◌&&◌, ltb, List, [], ◌∷◌, ◌++◌, map, length, drop, slice_index, is_some, Some, Ok, codes, decimal, Option, refl, ap, ◌∙◌, append_assoc, append-nil, arith, length-append, pow_mono}
 use Rattle.std.proofs.lemmas.Bool.Decides.{nat_tests}
+use Rattle.std.specs.Option.{ok_or}
 use Rattle.schedule.specs.Changes.{hour_fits, slot_fits, value_fits}
 use Rattle.schedule.specs.Group.{id_fits, timestamp_fits, ballot_fits}
-use Rattle.schedule.specs.declared.change.Change.{Change}
-use Rattle.schedule.specs.declared.set.ControllerSet.{ControllerSet}
 use Rattle.line_format.specs.Limits.{sender_fits, set_fits, accepted_fits, pairs_fit}
 use Rattle.line_format.specs.declared.limits.Field.{Field}
-use Rattle.line_format.specs.declared.limits.Field.TheVariants.{Sender, Id, Department, Kind, Hour, Slot, Value, Set, Timestamp, Ballot, Phase, Accepted, Detached, Pairs}
+use Rattle.line_format.specs.declared.limits.Field.TheVariants.{Sender, Id, Hour, Slot, Value, Set, Timestamp, Ballot, Phase, Accepted, Detached, Pairs}
 use Rattle.line_format.specs.declared.message.Message.{Message}
 use Rattle.line_format.specs.declared.message.Message.TheVariants.{MPayload, MPropose, MProposeAck, MCommit, MConsensus, MConsensusAck, MRec, MRecAck, MPromises}
 use Rattle.line_format.specs.declared.message.Promises.{Promises}
 use Rattle.line_format.specs.Laws.{Typed}
+use Rattle.text_forms.specs.Forms.{form_name, form_named}
+use Rattle.text_forms.specs.declared.form.Form.{Form}
+use Rattle.text_forms.specs.declared.form.Form.TheVariants as form
 use Rattle.line_text.specs.Labels.{label}
 use Rattle.line_text.specs.Laws.{fixed, ReadsBack, TypedReadsBack}
 use Rattle.line_text.specs.Lists.{filled, listed, pieces, words}
 use Rattle.line_text.specs.Promises.{with_detached, no_detached, with_pair, none_yet, detached_text, pairs_text}
-use Rattle.line_text.specs.Reading.{value_at, number_at, change_at, set_at, detached_at, pairs_at, reading, said}
+use Rattle.line_text.specs.Reading.{then, numbers_first, listed_first, ended, numbers_all, entry_change, entry_set, by_form, reading, said}
+use Rattle.line_text.specs.declared.fault.NotUnderstood.TheVariants as fault
 use Rattle.line_text.specs.Showing.{entry_numbers, field_text, numbers_text, text}
 use Rattle.line_text.specs.Values.{number_text, word}
 use Rattle.line_text.specs.declared.promises.Detached as detached
 use Rattle.line_text.specs.declared.promises.Pairs as pairs
-use Rattle.line_text.proofs.Back.{lacks, lacks_at, lacks_append, Good, decimal_good, department_good, kind_good, phase_good, set_good, label_plain, value_at_back, number_at_back}
+use Rattle.line_text.proofs.Back.{lacks, lacks_at, lacks_append, Good, decimal_good, department_good, kind_good, phase_good, set_good, label_plain, value_first_back, number_first_back}
 use Rattle.line_text.proofs.Paired.{pairs_lack, pairs_listed}
 use Rattle.line_text.proofs.Ranged.{detached_lacks, detached_listed}
 use Rattle.line_text.proofs.Cuts.{pieces_at, pieces_whole}
@@ -104,70 +107,27 @@ slot_good n h = decimal_good n (grind (arith, nat_tests))
 value_good : (n : ℕ) → value_fits n ≡ true → Good Value n
 value_good n h = decimal_good n (grind (arith, nat_tests))
 
--- the words of a name and its fields
-abbrev line : List ℕ → List (Field × ℕ) → List (List ℕ)
-line name es = name ∷ map entry_word es
+-- the numbers of fields, read back, and the message that they make
+numbers_back : (es : List (Field × ℕ)) → AllGood es → numbers_first (map (λ e. e.0) es) (map entry_word es) ≡ Ok (map (λ e. e.1) es)
+unfolding numbers_first
+numbers_back [] g = refl
+numbers_back (e ∷ es) g = rw (number_first_back e.0 e.1 (map entry_word es) g.0, numbers_back es g.1) refl
 
-propose_ack_back : (s i t : ℕ) → Good Sender s → Good Id i → Good Timestamp t → reading (text (MProposeAck s i t)) ≡ Ok (MProposeAck s i t)
-propose_ack_back s i t s_g i_g t_g =
-    let ws = line (codes "MProposeAck") ((Sender, s) ∷ (Id, i) ∷ (Timestamp, t) ∷ []) in
-    ap said (words_text (codes "MProposeAck") ((Sender, s) ∷ (Id, i) ∷ (Timestamp, t) ∷ []) refl (λ none. omega arith) (s_g, (i_g, (t_g, tt)))) ∙ rw (number_at_back ws 1 Sender s refl refl s_g.1, number_at_back ws 2 Id i refl refl i_g.1, number_at_back ws 3 Timestamp t refl refl t_g.1) refl
+all_back : (es : List (Field × ℕ)) → AllGood es → numbers_all (map (λ e. e.0) es) (map entry_word es) ≡ Ok (map (λ e. e.1) es)
+unfolding numbers_all
+all_back es g = rw (numbers_back es g) (ap (λ l. ended l (map (λ e. e.1) es)) (none_left es))
+  where
+    none_left : (es : List (Field × ℕ)) → drop (length (map (λ e. e.0) es)) (map entry_word es) ≡ []
+    none_left [] = refl
+    none_left (e ∷ es) = none_left es
 
-commit_back : (s i t : ℕ) → Good Sender s → Good Id i → Good Timestamp t → reading (text (MCommit s i t)) ≡ Ok (MCommit s i t)
-commit_back s i t s_g i_g t_g =
-    let ws = line (codes "MCommit") ((Sender, s) ∷ (Id, i) ∷ (Timestamp, t) ∷ []) in
-    ap said (words_text (codes "MCommit") ((Sender, s) ∷ (Id, i) ∷ (Timestamp, t) ∷ []) refl (λ none. omega arith) (s_g, (i_g, (t_g, tt)))) ∙ rw (number_at_back ws 1 Sender s refl refl s_g.1, number_at_back ws 2 Id i refl refl i_g.1, number_at_back ws 3 Timestamp t refl refl t_g.1) refl
-
-consensus_back : (s i t b : ℕ) → Good Sender s → Good Id i → Good Timestamp t → Good Ballot b → reading (text (MConsensus s i t b)) ≡ Ok (MConsensus s i t b)
-consensus_back s i t b s_g i_g t_g b_g =
-    let ws = line (codes "MConsensus") ((Sender, s) ∷ (Id, i) ∷ (Timestamp, t) ∷ (Ballot, b) ∷ []) in
-    ap said (words_text (codes "MConsensus") ((Sender, s) ∷ (Id, i) ∷ (Timestamp, t) ∷ (Ballot, b) ∷ []) refl (λ none. omega arith) (s_g, (i_g, (t_g, (b_g, tt))))) ∙ rw (number_at_back ws 1 Sender s refl refl s_g.1, number_at_back ws 2 Id i refl refl i_g.1, number_at_back ws 3 Timestamp t refl refl t_g.1, number_at_back ws 4 Ballot b refl refl b_g.1) refl
-
-consensus_ack_back : (s i b : ℕ) → Good Sender s → Good Id i → Good Ballot b → reading (text (MConsensusAck s i b)) ≡ Ok (MConsensusAck s i b)
-consensus_ack_back s i b s_g i_g b_g =
-    let ws = line (codes "MConsensusAck") ((Sender, s) ∷ (Id, i) ∷ (Ballot, b) ∷ []) in
-    ap said (words_text (codes "MConsensusAck") ((Sender, s) ∷ (Id, i) ∷ (Ballot, b) ∷ []) refl (λ none. omega arith) (s_g, (i_g, (b_g, tt)))) ∙ rw (number_at_back ws 1 Sender s refl refl s_g.1, number_at_back ws 2 Id i refl refl i_g.1, number_at_back ws 3 Ballot b refl refl b_g.1) refl
-
-recover_back : (s i b : ℕ) → Good Sender s → Good Id i → Good Ballot b → reading (text (MRec s i b)) ≡ Ok (MRec s i b)
-recover_back s i b s_g i_g b_g =
-    let ws = line (codes "MRec") ((Sender, s) ∷ (Id, i) ∷ (Ballot, b) ∷ []) in
-    ap said (words_text (codes "MRec") ((Sender, s) ∷ (Id, i) ∷ (Ballot, b) ∷ []) refl (λ none. omega arith) (s_g, (i_g, (b_g, tt)))) ∙ rw (number_at_back ws 1 Sender s refl refl s_g.1, number_at_back ws 2 Id i refl refl i_g.1, number_at_back ws 3 Ballot b refl refl b_g.1) refl
-
-recover_ack_back : (s i t p a b : ℕ) → Good Sender s → Good Id i → Good Timestamp t → Good Phase p → Good Accepted a → Good Ballot b → reading (text (MRecAck s i t p a b)) ≡ Ok (MRecAck s i t p a b)
-recover_ack_back s i t p a b s_g i_g t_g p_g a_g b_g =
-    let ws = line (codes "MRecAck") ((Sender, s) ∷ (Id, i) ∷ (Timestamp, t) ∷ (Phase, p) ∷ (Accepted, a) ∷ (Ballot, b) ∷ []) in
-    ap said (words_text (codes "MRecAck") ((Sender, s) ∷ (Id, i) ∷ (Timestamp, t) ∷ (Phase, p) ∷ (Accepted, a) ∷ (Ballot, b) ∷ []) refl (λ none. omega arith) (s_g, (i_g, (t_g, (p_g, (a_g, (b_g, tt))))))) ∙ rw (number_at_back ws 1 Sender s refl refl s_g.1, number_at_back ws 2 Id i refl refl i_g.1, number_at_back ws 3 Timestamp t refl refl t_g.1, number_at_back ws 4 Phase p refl refl p_g.1, number_at_back ws 5 Accepted a refl refl a_g.1, number_at_back ws 6 Ballot b refl refl b_g.1) refl
-
-change_back : (ws : List (List ℕ)) (c : Change) → number_at ws 3 Department ≡ Ok c.department → number_at ws 4 Kind ≡ Ok c.kind → number_at ws 5 Hour ≡ Ok c.hour → number_at ws 6 Slot ≡ Ok c.slot → number_at ws 7 Value ≡ Ok c.value → change_at ws ≡ Ok c
-unfolding change_at
-change_back ws c d k h s v = rw (d, k, h, s, v) refl
-
-set_back : (ws : List (List ℕ)) (set : ControllerSet) → number_at ws 8 Set ≡ Ok set.bits → set_at ws ≡ Ok set
-unfolding set_at
-set_back ws set b = rw b refl
-
--- the fields of MPayload and MPropose
-abbrev EntryGood : ℕ → ℕ → Change → ControllerSet → Type 0
-EntryGood s i c set = AllGood (entry_numbers s i c set.bits)
-
-payload_back : (s i : ℕ) (c : Change) (set : ControllerSet) → EntryGood s i c set → reading (text (MPayload s i c set)) ≡ Ok (MPayload s i c set)
-payload_back s i c set g =
-    let es = entry_numbers s i c set.bits in
-    let ws = line (codes "MPayload") es in
-    let change = change_back ws c (number_at_back ws 3 Department c.department refl refl g.1.1.0.1) (number_at_back ws 4 Kind c.kind refl refl g.1.1.1.0.1) (number_at_back ws 5 Hour c.hour refl refl g.1.1.1.1.0.1) (number_at_back ws 6 Slot c.slot refl refl g.1.1.1.1.1.0.1) (number_at_back ws 7 Value c.value refl refl g.1.1.1.1.1.1.0.1) in
-    ap said (words_text (codes "MPayload") es refl (λ none. omega arith) g)
-    ∙ rw (number_at_back ws 1 Sender s refl refl g.0.1, number_at_back ws 2 Id i refl refl g.1.0.1, change, set_back ws set (number_at_back ws 8 Set set.bits refl refl g.1.1.1.1.1.1.1.0.1)) refl
-
-propose_back : (s i : ℕ) (c : Change) (set : ControllerSet) (t : ℕ) → EntryGood s i c set → Good Timestamp t → reading (text (MPropose s i c set t)) ≡ Ok (MPropose s i c set t)
-propose_back s i c set t g t_g =
-    let entry = entry_numbers s i c set.bits in
-    let es = entry ++ ((Timestamp, t) ∷ []) in
-    let ws = line (codes "MPropose") es in
-    let all : AllGood es = (g.0, (g.1.0, (g.1.1.0, (g.1.1.1.0, (g.1.1.1.1.0, (g.1.1.1.1.1.0, (g.1.1.1.1.1.1.0, (g.1.1.1.1.1.1.1.0, (t_g, tt))))))))) in
-    let change = change_back ws c (number_at_back ws 3 Department c.department refl refl g.1.1.0.1) (number_at_back ws 4 Kind c.kind refl refl g.1.1.1.0.1) (number_at_back ws 5 Hour c.hour refl refl g.1.1.1.1.0.1) (number_at_back ws 6 Slot c.slot refl refl g.1.1.1.1.1.0.1) (number_at_back ws 7 Value c.value refl refl g.1.1.1.1.1.1.0.1) in
-    ap (λ l. reading (codes "MPropose" ++ l)) (numbers_append entry ((Timestamp, t) ∷ []))
-    ∙ ap said (words_text (codes "MPropose") es refl (λ none. omega arith) all)
-    ∙ rw (number_at_back ws 1 Sender s refl refl g.0.1, number_at_back ws 2 Id i refl refl g.1.0.1, change, set_back ws set (number_at_back ws 8 Set set.bits refl refl g.1.1.1.1.1.1.1.0.1), number_at_back ws 9 Timestamp t refl refl t_g.1) refl
+message_back : (form : Form) (es : List (Field × ℕ)) (make : List ℕ → Message) → AllGood es → ((ws : List (List ℕ)) → by_form form ws ≡ then (numbers_all (map (λ e. e.0) es) ws) (λ ns. Ok (make ns)))
+    → form_named (form_name form) ≡ Some form → lacks 32 (form_name form) ≡ true → (length (form_name form) ≡ 0 → ⊥)
+    → reading (form_name form ++ numbers_text es) ≡ Ok (make (map (λ e. e.1) es))
+message_back form es make g reads named free some =
+    ap said (words_text (form_name form) es free some g)
+    ∙ ap (λ o. then (ok_or o fault.Name) (λ f. by_form f (map entry_word es))) named
+    ∙ reads (map entry_word es) ∙ ap (λ r. then r (λ ns. Ok (make ns))) (all_back es g)
 
 -- the words of a message of promises
 promises_words : (s : ℕ) (d v : List ℕ) → Good Sender s → lacks 32 d ≡ true → lacks 32 v ≡ true → words (codes "MPromises" ++ (numbers_text ((Sender, s) ∷ []) ++ (field_text Detached d ++ field_text Pairs v))) ≡ codes "MPromises" ∷ word Sender (decimal s) ∷ word Detached d ∷ word Pairs v ∷ []
@@ -181,49 +141,47 @@ promises_words s d v g h k =
     ∙ ap (λ l. word Sender (decimal s) ∷ l) (piece Detached d (word Pairs v) h
     ∙ ap (λ l. word Detached d ∷ l) (pieces_whole 32 (word Pairs v) (lacks_at 32 (word Pairs v) (word_lacks Pairs v k))))))
 
-detached_back : (ws : List (List ℕ)) (v : List ℕ) (d : detached.Detached) → value_at ws 2 Detached ≡ Ok v → listed with_detached no_detached v ≡ Some d → detached_at ws ≡ Ok d
-unfolding detached_at
-detached_back ws v d found all = rw (found, all) refl
-
-pairs_back : (ws : List (List ℕ)) (v : List ℕ) (p : pairs.Pairs) → value_at ws 3 Pairs ≡ Ok v → listed with_pair none_yet v ≡ Some p → pairs_at ws ≡ Ok p
-unfolding pairs_at
-pairs_back ws v p found all = rw (found, all) refl
+listed_back_first : {A : Type 0} (adds : A → List ℕ → Option A) (start a : A) (f : Field) (v : List ℕ) (ws : List (List ℕ)) → listed adds start v ≡ Some a → listed_first adds start f (word f v ∷ ws) ≡ Ok a
+unfolding listed_first
+listed_back_first adds start a f v ws all = rw (value_first_back f v ws) (ap (λ o. ok_or o (fault.Value f)) all)
 
 promises_back : (r s : ℕ) (p : Promises) → r ≤ 7 → Typed (MPromises s p) → Good Sender s → pairs_fit r p ≡ true → reading (text (MPromises s p)) ≡ Ok (MPromises s p)
 promises_back r s p small ty g fit =
     let d = detached_text p.detached in
     let v = pairs_text p in
-    let ws : List (List ℕ) = codes "MPromises" ∷ word Sender (decimal s) ∷ word Detached d ∷ word Pairs v ∷ [] in
-    let whole = detached_back ws d (record { words = p.detached }) (value_at_back ws 2 Detached d refl refl) (detached_listed p.detached ty.0 ty.1) in
-    let paired = pairs_back ws v (record { count = p.count; pairs = p.pairs }) (value_at_back ws 3 Pairs v refl refl) (pairs_listed r small s p ty fit) in
+    let ranges : detached.Detached = record { words = p.detached } in
+    let found : pairs.Pairs = record { count = p.count; pairs = p.pairs } in
+    let whole = listed_back_first with_detached no_detached ranges Detached d (word Pairs v ∷ []) (detached_listed p.detached ty.0 ty.1) in
+    let paired = listed_back_first with_pair none_yet found Pairs v [] (pairs_listed r small s p ty fit) in
     ap said (promises_words s d v g (detached_lacks p.detached ty.0 ty.1) (pairs_lack r small s p ty fit))
-    ∙ rw (number_at_back ws 1 Sender s refl refl g.1, whole, paired) refl
+    ∙ rw (number_first_back Sender s (word Detached d ∷ word Pairs v ∷ []) g, whole, paired) refl
 
 pub typed_reads_back : TypedReadsBack
 typed_reads_back r f small (MPayload s i c set) ty h =
     let x1 = fits_first _ _ _ h in let x2 = fits_first _ _ _ x1.1 in let x3 = fits_first _ _ _ x2.1 in let x4 = fits_first _ _ _ x3.1 in let x5 = fits_first _ _ _ x4.1 in let x6 = fits_first _ _ _ x5.1 in let x7 = fits_first _ _ _ x6.1 in let x8 = fits_first _ _ _ x7.1 in
-    payload_back s i c set (sender_good r f small s x1.0, (id_good r f small i x2.0, (department_good c.department x3.0, (kind_good c.kind x4.0, (hour_good c.hour x5.0, (slot_good c.slot x6.0, (value_good c.value x7.0, (member_good r f small i set.bits x8.0, tt))))))))
+    message_back form.MPayload (entry_numbers s i c set.bits) (λ ns. MPayload (slice_index ns 0) (slice_index ns 1) (entry_change ns) (entry_set ns)) (sender_good r f small s x1.0, (id_good r f small i x2.0, (department_good c.department x3.0, (kind_good c.kind x4.0, (hour_good c.hour x5.0, (slot_good c.slot x6.0, (value_good c.value x7.0, (member_good r f small i set.bits x8.0, tt)))))))) (λ _. refl) refl refl (λ none. omega arith)
 typed_reads_back r f small (MPropose s i c set t) ty h =
     let x1 = fits_first _ _ _ h in let x2 = fits_first _ _ _ x1.1 in let x3 = fits_first _ _ _ x2.1 in let x4 = fits_first _ _ _ x3.1 in let x5 = fits_first _ _ _ x4.1 in let x6 = fits_first _ _ _ x5.1 in let x7 = fits_first _ _ _ x6.1 in let x8 = fits_first _ _ _ x7.1 in let x9 = fits_first _ _ _ x8.1 in
-    propose_back s i c set t (sender_good r f small s x1.0, (id_good r f small i x2.0, (department_good c.department x3.0, (kind_good c.kind x4.0, (hour_good c.hour x5.0, (slot_good c.slot x6.0, (value_good c.value x7.0, (member_good r f small i set.bits x8.0, tt)))))))) (timestamp_good t x9.0)
+    ap (λ l. reading (codes "MPropose" ++ l)) (numbers_append (entry_numbers s i c set.bits) ((Timestamp, t) ∷ []))
+    ∙ message_back form.MPropose (entry_numbers s i c set.bits ++ ((Timestamp, t) ∷ [])) (λ ns. MPropose (slice_index ns 0) (slice_index ns 1) (entry_change ns) (entry_set ns) (slice_index ns 8)) (sender_good r f small s x1.0, (id_good r f small i x2.0, (department_good c.department x3.0, (kind_good c.kind x4.0, (hour_good c.hour x5.0, (slot_good c.slot x6.0, (value_good c.value x7.0, (member_good r f small i set.bits x8.0, (timestamp_good t x9.0, tt))))))))) (λ _. refl) refl refl (λ none. omega arith)
 typed_reads_back r f small (MProposeAck s i t) ty h =
     let x1 = fits_first _ _ _ h in let x2 = fits_first _ _ _ x1.1 in let x3 = fits_first _ _ _ x2.1 in
-    propose_ack_back s i t (sender_good r f small s x1.0) (id_good r f small i x2.0) (timestamp_good t x3.0)
+    message_back form.MProposeAck ((Sender, s) ∷ (Id, i) ∷ (Timestamp, t) ∷ []) (λ ns. MProposeAck (slice_index ns 0) (slice_index ns 1) (slice_index ns 2)) (sender_good r f small s x1.0, (id_good r f small i x2.0, (timestamp_good t x3.0, tt))) (λ _. refl) refl refl (λ none. omega arith)
 typed_reads_back r f small (MCommit s i t) ty h =
     let x1 = fits_first _ _ _ h in let x2 = fits_first _ _ _ x1.1 in let x3 = fits_first _ _ _ x2.1 in
-    commit_back s i t (sender_good r f small s x1.0) (id_good r f small i x2.0) (timestamp_good t x3.0)
+    message_back form.MCommit ((Sender, s) ∷ (Id, i) ∷ (Timestamp, t) ∷ []) (λ ns. MCommit (slice_index ns 0) (slice_index ns 1) (slice_index ns 2)) (sender_good r f small s x1.0, (id_good r f small i x2.0, (timestamp_good t x3.0, tt))) (λ _. refl) refl refl (λ none. omega arith)
 typed_reads_back r f small (MConsensus s i t b) ty h =
     let x1 = fits_first _ _ _ h in let x2 = fits_first _ _ _ x1.1 in let x3 = fits_first _ _ _ x2.1 in let x4 = fits_first _ _ _ x3.1 in
-    consensus_back s i t b (sender_good r f small s x1.0) (id_good r f small i x2.0) (timestamp_good t x3.0) (ballot_good b x4.0)
+    message_back form.MConsensus ((Sender, s) ∷ (Id, i) ∷ (Timestamp, t) ∷ (Ballot, b) ∷ []) (λ ns. MConsensus (slice_index ns 0) (slice_index ns 1) (slice_index ns 2) (slice_index ns 3)) (sender_good r f small s x1.0, (id_good r f small i x2.0, (timestamp_good t x3.0, (ballot_good b x4.0, tt)))) (λ _. refl) refl refl (λ none. omega arith)
 typed_reads_back r f small (MConsensusAck s i b) ty h =
     let x1 = fits_first _ _ _ h in let x2 = fits_first _ _ _ x1.1 in let x3 = fits_first _ _ _ x2.1 in
-    consensus_ack_back s i b (sender_good r f small s x1.0) (id_good r f small i x2.0) (ballot_good b x3.0)
+    message_back form.MConsensusAck ((Sender, s) ∷ (Id, i) ∷ (Ballot, b) ∷ []) (λ ns. MConsensusAck (slice_index ns 0) (slice_index ns 1) (slice_index ns 2)) (sender_good r f small s x1.0, (id_good r f small i x2.0, (ballot_good b x3.0, tt))) (λ _. refl) refl refl (λ none. omega arith)
 typed_reads_back r f small (MRec s i b) ty h =
     let x1 = fits_first _ _ _ h in let x2 = fits_first _ _ _ x1.1 in let x3 = fits_first _ _ _ x2.1 in
-    recover_back s i b (sender_good r f small s x1.0) (id_good r f small i x2.0) (takeover_good r b x3.0)
+    message_back form.MRec ((Sender, s) ∷ (Id, i) ∷ (Ballot, b) ∷ []) (λ ns. MRec (slice_index ns 0) (slice_index ns 1) (slice_index ns 2)) (sender_good r f small s x1.0, (id_good r f small i x2.0, (takeover_good r b x3.0, tt))) (λ _. refl) refl refl (λ none. omega arith)
 typed_reads_back r f small (MRecAck s i t p a b) ty h =
     let x1 = fits_first _ _ _ h in let x2 = fits_first _ _ _ x1.1 in let x3 = fits_first _ _ _ x2.1 in let x4 = fits_first _ _ _ x3.1 in let x5 = fits_first _ _ _ x4.1 in let x6 = fits_first _ _ _ x5.1 in
-    recover_ack_back s i t p a b (sender_good r f small s x1.0) (id_good r f small i x2.0) (timestamp_good t x3.0) (phase_good p x4.0) (accepted_good a x5.0) (ballot_good b x6.0)
+    message_back form.MRecAck ((Sender, s) ∷ (Id, i) ∷ (Timestamp, t) ∷ (Phase, p) ∷ (Accepted, a) ∷ (Ballot, b) ∷ []) (λ ns. MRecAck (slice_index ns 0) (slice_index ns 1) (slice_index ns 2) (slice_index ns 3) (slice_index ns 4) (slice_index ns 5)) (sender_good r f small s x1.0, (id_good r f small i x2.0, (timestamp_good t x3.0, (phase_good p x4.0, (accepted_good a x5.0, (ballot_good b x6.0, tt)))))) (λ _. refl) refl refl (λ none. omega arith)
 typed_reads_back r f small (MPromises s p) ty h =
     let x1 = fits_first _ _ _ h in let x2 = fits_first _ _ _ x1.1 in let x3 = fits_first _ _ _ x2.1 in
     promises_back r s p small ty (sender_good r f small s x1.0) x3.0

@@ -1,9 +1,11 @@
 pub mod Back
 pub mod Bits
 pub mod Cuts
+pub mod Known
 pub mod Law
 pub mod Listed
 pub mod Paired
 pub mod Ranged
 pub mod Shown
+pub mod Taken
 pub mod Words

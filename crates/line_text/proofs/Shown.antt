@@ -1,14 +1,22 @@
 -- Lists as they are printed, piece by piece.
-use Rattle.std.proofs.Common.{◌≡◌, ℕ, suc, ◌+◌, ◌-◌, ◌<◌, ◌≤◌, Bool, true, false, cond, List, [], ◌∷◌, ◌++◌, Some, None, Option, sym, refl, ap, ◌∙◌, append_assoc, arith}
+use Rattle.std.proofs.Common.{◌≡◌, ℕ, suc, ◌+◌, ◌-◌, ◌<◌, ◌≤◌, Bool, true, false, List, [], ◌∷◌, ◌++◌, Some, None, Option, sym, refl, ap, ◌∙◌, append_assoc, arith}
 use Rattle.schedule.specs.Sets.{member}
-use Rattle.line_text.specs.Lists.{list_from}
+use Rattle.std.specs.Fmt.{AppendsText, ◌++?◌}
+use Rattle.std.specs.Option.{IfSome}
+use Rattle.line_text.specs.Lists.{comma, list_from}
 use Rattle.line_text.specs.Promises.{has, ranges_from}
 use Rattle.line_text.specs.Sets.{members_from}
 
--- after a comma, where there is one, and the next piece
-pub one_more : (before after shown p all : List ℕ) (first : Bool) (ps qs : List (List ℕ)) → after ≡ before ++ cond first [] (44 ∷ []) → shown ≡ after ++ p → qs ≡ p ∷ ps → before ++ list_from qs first ≡ all → shown ++ list_from ps false ≡ all
-one_more before after shown p all first ps qs comma piece next sofar =
-    ap (λ l. l ++ list_from ps false) (piece ∙ ap (λ l. l ++ p) comma) ∙ simp append_assoc (ap (λ l. before ++ list_from l first) (sym next) ∙ sofar)
+-- after one more piece
+pub one_more : (before shown p all : List ℕ) (first : Bool) (ps qs : List (List ℕ)) → shown ≡ before ++ (comma first ++ p) → qs ≡ p ∷ ps → before ++ list_from qs first ≡ all → shown ++ list_from ps false ≡ all
+one_more before shown p all first ps qs piece next sofar =
+    ap (λ l. l ++ list_from ps false) piece ∙ simp append_assoc (ap (λ l. before ++ list_from l first) (sym next) ∙ sofar)
+
+-- what is written after a comma
+pub after_comma : (old new : List ℕ) (o : Option (List ℕ)) (first : Bool) → first ≡ false → AppendsText old new (Some (44 ∷ []) ++? o) → IfSome o (λ text. new ≡ old ++ (comma first ++ text))
+after_comma old new o true e h = absurd (cc)
+after_comma old new None false e h = h
+after_comma old new (Some text) false e h = h
 
 module _ (bits j n : ℕ) (h : j < n) where
   less : n - j ≡ suc (n - (j + 1))

@@ -1,16 +1,18 @@
 -- Texts cut at a character, and lists joined by commas.
-use Rattle.std.specs.Prelude.{ℕ, Bool, true, false, cond, List, [], ◌∷◌, ◌++◌, Some, None, codes, Option, ◌==◌}
+use Rattle.std.specs.Prelude.{◌≡◌, ℕ, Bool, true, false, cond, List, [], ◌∷◌, ◌++◌, Some, None, codes, Option, ◌==◌, String, string_bytes}
+use Rattle.std.specs.declared.alloc.Global.{Global}
 use Rattle.std.specs.Borrow.{Bor}
+use Rattle.std.specs.List.{slice_split}
 use Rattle.std.specs.Str.{bytes_eq}
 
--- one more byte at the front of what stands before the cut, or of the first piece
+-- new is old with a text after it
+abbrev pub Appends : String Global → String Global → List ℕ → Type 0
+Appends old new text = string_bytes new ≡ string_bytes old ++ text
+
+-- one more byte at the front of what stands before the cut
 abbrev pub longer : ℕ → Option (List ℕ × List ℕ) → Option (List ℕ × List ℕ)
 longer x None = None
 longer x (Some p) = Some (x ∷ p.0, p.1)
-
-abbrev pub grown : ℕ → List (List ℕ) → List (List ℕ)
-grown x [] = (x ∷ []) ∷ []
-grown x (p ∷ ps) = (x ∷ p) ∷ ps
 
 -- what stands before and after the first c
 abbrev pub cut : ℕ → List ℕ → Option (List ℕ × List ℕ)
@@ -23,8 +25,7 @@ ends p = (p.0.now, p.1.now)
 
 -- what stands between the c's
 abbrev pub pieces : ℕ → List ℕ → List (List ℕ)
-pieces c [] = [] ∷ []
-pieces c (x ∷ xs) = cond (x == c) ([] ∷ pieces c xs) (grown x (pieces c xs))
+pieces c text = slice_split (λ x. x == c) text
 
 -- the pieces that are not empty
 abbrev pub filled : List (List ℕ) → List (List ℕ)
@@ -49,10 +50,14 @@ gathered adds a (p ∷ ps) = and_then (adds a p) (λ b. gathered adds b ps)
 abbrev pub listed : {A : Type 0} → (A → List ℕ → Option A) → A → List ℕ → Option A
 listed adds a text = cond (bytes_eq text (codes "none")) (Some a) (gathered adds a (pieces 44 text))
 
+-- a comma before every piece of a list but the first
+abbrev pub comma : Bool → List ℕ
+comma first = cond first [] (44 ∷ [])
+
 -- a list as text, from its first piece or a later one on
 abbrev pub list_from : List (List ℕ) → Bool → List ℕ
 list_from [] first = cond first (codes "none") []
-list_from (p ∷ ps) first = cond first [] (44 ∷ []) ++ (p ++ list_from ps false)
+list_from (p ∷ ps) first = comma first ++ (p ++ list_from ps false)
 
 abbrev pub list_text : List (List ℕ) → List ℕ
 list_text ps = list_from ps true

@@ -1,5 +1,6 @@
 -- Reading a message from its words.
-use Rattle.std.specs.Prelude.{ℕ, cond, List, [], map, length, Some, None, Ok, Err, Option, Result, nat_lt, slice_index_or}
+use Rattle.std.specs.Prelude.{ℕ, List, [], ◌∷◌, map, length, drop, Ok, Err, Option, Result, slice_index}
+use Rattle.std.specs.Option.{ok_or}
 use Rattle.std.specs.Borrow.{Bor}
 use Rattle.schedule.specs.declared.change.Change.{Change}
 use Rattle.schedule.specs.declared.set.ControllerSet.{ControllerSet}
@@ -15,8 +16,6 @@ use Rattle.line_text.specs.declared.fault.NotUnderstood.{NotUnderstood}
 use Rattle.line_text.specs.declared.fault.NotUnderstood.TheVariants as fault
 use Rattle.text_forms.specs.declared.form.Form.{Form}
 use Rattle.text_forms.specs.declared.form.Form.TheVariants as form
-use Rattle.line_text.specs.declared.promises.Detached as detached
-use Rattle.line_text.specs.declared.promises.Pairs as pairs
 
 -- the texts that words point to
 abbrev pub texts : List (Bor (List ℕ)) → List (List ℕ)
@@ -27,87 +26,90 @@ abbrev pub then : {A B : Type 0} → Result A NotUnderstood → (A → Result B 
 then (Ok a) next = next a
 then (Err e) next = Err e
 
--- a field's value, where it was understood
-abbrev pub given : {A : Type 0} → Field → Option A → Result A NotUnderstood
-given f None = Err (fault.Value f)
-given f (Some a) = Ok a
+-- the value of the field that should come first
+unfoldable pub value_first : Field → List (List ℕ) → Result (List ℕ) NotUnderstood
+value_first f [] = Err (fault.Expected f)
+value_first f (w ∷ ws) = value_in f w
 
--- the value of the field that should stand at a place, and its number
-unfoldable pub value_at : List (List ℕ) → ℕ → Field → Result (List ℕ) NotUnderstood
-value_at ws at f = cond (nat_lt at (length ws)) (value_in f (slice_index_or ws at [])) (Err (fault.Expected f))
+-- the number of the field that should come first, and the numbers of fields one after the other
+unfoldable pub number_first : Field → List (List ℕ) → Result ℕ NotUnderstood
+number_first f ws = then (value_first f ws) (λ v. ok_or (number_of f v) (fault.Value f))
 
-unfoldable pub number_at : List (List ℕ) → ℕ → Field → Result ℕ NotUnderstood
-number_at ws at f = then (value_at ws at f) (λ v. given f (number_of f v))
+unfoldable pub numbers_first : List Field → List (List ℕ) → Result (List ℕ) NotUnderstood
+numbers_first [] ws = Ok []
+numbers_first (f ∷ fs) ws = then (number_first f ws) (λ n. then (numbers_first fs (drop 1 ws)) (λ ns. Ok (n ∷ ns)))
 
--- a message whose last field is the last word
-abbrev pub ended : List (List ℕ) → ℕ → Message → Result Message NotUnderstood
-ended ws n m = cond (nat_lt n (length ws)) (Err fault.Leftover) (Ok m)
+-- what the list in the field that should come first adds
+unfoldable pub listed_first : {A : Type 0} → (A → List ℕ → Option A) → A → Field → List (List ℕ) → Result A NotUnderstood
+listed_first adds a f ws = then (value_first f ws) (λ v. ok_or (listed adds a v) (fault.Value f))
 
-unfoldable pub change_at : List (List ℕ) → Result Change NotUnderstood
-change_at ws =
-    then (number_at ws 3 Department) (λ d. then (number_at ws 4 Kind) (λ k. then (number_at ws 5 Hour) (λ h. then (number_at ws 6 Slot) (λ s. then (number_at ws 7 Value) (λ v. Ok (record { department = d; kind = k; hour = h; slot = s; value = v }))))))
+-- what was read, where no word is left
+abbrev pub ended : {A : Type 0} → List (List ℕ) → A → Result A NotUnderstood
+ended [] a = Ok a
+ended (w ∷ ws) a = Err fault.Leftover
 
-unfoldable pub set_at : List (List ℕ) → Result ControllerSet NotUnderstood
-set_at ws = then (number_at ws 8 Set) (λ bits. Ok (record { bits = bits }))
+-- the numbers of fields, where no word follows them
+unfoldable pub numbers_all : List Field → List (List ℕ) → Result (List ℕ) NotUnderstood
+numbers_all fs ws = then (numbers_first fs ws) (λ ns. ended (drop (length fs) ws) ns)
 
-unfoldable pub detached_at : List (List ℕ) → Result detached.Detached NotUnderstood
-detached_at ws = then (value_at ws 2 Detached) (λ v. given Detached (listed with_detached no_detached v))
+-- what MPayload and MPropose have in common
+abbrev pub entry_fields : List Field
+entry_fields = Sender ∷ Id ∷ Department ∷ Kind ∷ Hour ∷ Slot ∷ Value ∷ Set ∷ []
 
-unfoldable pub pairs_at : List (List ℕ) → Result pairs.Pairs NotUnderstood
-pairs_at ws = then (value_at ws 3 Pairs) (λ v. given Pairs (listed with_pair none_yet v))
+abbrev pub entry_change : List ℕ → Change
+entry_change ns = record { department = slice_index ns 2; kind = slice_index ns 3; hour = slice_index ns 4; slot = slice_index ns 5; value = slice_index ns 6 }
+
+abbrev pub entry_set : List ℕ → ControllerSet
+entry_set ns = record { bits = slice_index ns 7 }
 
 -- each message: its fields in the order of the bytes
 abbrev pub payload : List (List ℕ) → Result Message NotUnderstood
-payload ws =
-    then (number_at ws 1 Sender) (λ s. then (number_at ws 2 Id) (λ i. then (change_at ws) (λ c. then (set_at ws) (λ set. ended ws 9 (MPayload s i c set)))))
+payload ws = then (numbers_all entry_fields ws) (λ ns. Ok (MPayload (slice_index ns 0) (slice_index ns 1) (entry_change ns) (entry_set ns)))
 
 abbrev pub propose : List (List ℕ) → Result Message NotUnderstood
 propose ws =
-    then (number_at ws 1 Sender) (λ s. then (number_at ws 2 Id) (λ i. then (change_at ws) (λ c. then (set_at ws) (λ set. then (number_at ws 9 Timestamp) (λ t. ended ws 10 (MPropose s i c set t))))))
+    then (numbers_all (Sender ∷ Id ∷ Department ∷ Kind ∷ Hour ∷ Slot ∷ Value ∷ Set ∷ Timestamp ∷ []) ws) (λ ns. Ok (MPropose (slice_index ns 0) (slice_index ns 1) (entry_change ns) (entry_set ns) (slice_index ns 8)))
 
 abbrev pub propose_ack : List (List ℕ) → Result Message NotUnderstood
-propose_ack ws =
-    then (number_at ws 1 Sender) (λ s. then (number_at ws 2 Id) (λ i. then (number_at ws 3 Timestamp) (λ t. ended ws 4 (MProposeAck s i t))))
+propose_ack ws = then (numbers_all (Sender ∷ Id ∷ Timestamp ∷ []) ws) (λ ns. Ok (MProposeAck (slice_index ns 0) (slice_index ns 1) (slice_index ns 2)))
 
 abbrev pub commit : List (List ℕ) → Result Message NotUnderstood
-commit ws =
-    then (number_at ws 1 Sender) (λ s. then (number_at ws 2 Id) (λ i. then (number_at ws 3 Timestamp) (λ t. ended ws 4 (MCommit s i t))))
+commit ws = then (numbers_all (Sender ∷ Id ∷ Timestamp ∷ []) ws) (λ ns. Ok (MCommit (slice_index ns 0) (slice_index ns 1) (slice_index ns 2)))
 
 abbrev pub consensus : List (List ℕ) → Result Message NotUnderstood
 consensus ws =
-    then (number_at ws 1 Sender) (λ s. then (number_at ws 2 Id) (λ i. then (number_at ws 3 Timestamp) (λ t. then (number_at ws 4 Ballot) (λ b. ended ws 5 (MConsensus s i t b)))))
+    then (numbers_all (Sender ∷ Id ∷ Timestamp ∷ Ballot ∷ []) ws) (λ ns. Ok (MConsensus (slice_index ns 0) (slice_index ns 1) (slice_index ns 2) (slice_index ns 3)))
 
 abbrev pub consensus_ack : List (List ℕ) → Result Message NotUnderstood
-consensus_ack ws =
-    then (number_at ws 1 Sender) (λ s. then (number_at ws 2 Id) (λ i. then (number_at ws 3 Ballot) (λ b. ended ws 4 (MConsensusAck s i b))))
+consensus_ack ws = then (numbers_all (Sender ∷ Id ∷ Ballot ∷ []) ws) (λ ns. Ok (MConsensusAck (slice_index ns 0) (slice_index ns 1) (slice_index ns 2)))
 
 abbrev pub recover : List (List ℕ) → Result Message NotUnderstood
-recover ws = then (number_at ws 1 Sender) (λ s. then (number_at ws 2 Id) (λ i. then (number_at ws 3 Ballot) (λ b. ended ws 4 (MRec s i b))))
+recover ws = then (numbers_all (Sender ∷ Id ∷ Ballot ∷ []) ws) (λ ns. Ok (MRec (slice_index ns 0) (slice_index ns 1) (slice_index ns 2)))
 
 abbrev pub recover_ack : List (List ℕ) → Result Message NotUnderstood
 recover_ack ws =
-    then (number_at ws 1 Sender) (λ s. then (number_at ws 2 Id) (λ i. then (number_at ws 3 Timestamp) (λ t. then (number_at ws 4 Phase) (λ p. then (number_at ws 5 Accepted) (λ a. then (number_at ws 6 Ballot) (λ b. ended ws 7 (MRecAck s i t p a b)))))))
+    then (numbers_all (Sender ∷ Id ∷ Timestamp ∷ Phase ∷ Accepted ∷ Ballot ∷ []) ws) (λ ns. Ok (MRecAck (slice_index ns 0) (slice_index ns 1) (slice_index ns 2) (slice_index ns 3) (slice_index ns 4) (slice_index ns 5)))
 
 abbrev pub promises : List (List ℕ) → Result Message NotUnderstood
 promises ws =
-    then (number_at ws 1 Sender) (λ s. then (detached_at ws) (λ d. then (pairs_at ws) (λ p. ended ws 4 (MPromises s (record { detached = d.words; count = p.count; pairs = p.pairs })))))
+    then (number_first Sender ws) (λ s. then (listed_first with_detached no_detached Detached (drop 1 ws)) (λ d. then (listed_first with_pair none_yet Pairs (drop 1 (drop 1 ws))) (λ p. ended (drop 1 (drop 1 (drop 1 ws))) (MPromises s (record { detached = d.words; count = p.count; pairs = p.pairs })))))
 
--- the message of the first word's form
-abbrev pub by_form : List (List ℕ) → Option Form → Result Message NotUnderstood
-by_form ws None = Err fault.Name
-by_form ws (Some form.MPayload) = payload ws
-by_form ws (Some form.MPropose) = propose ws
-by_form ws (Some form.MProposeAck) = propose_ack ws
-by_form ws (Some form.MCommit) = commit ws
-by_form ws (Some form.MConsensus) = consensus ws
-by_form ws (Some form.MConsensusAck) = consensus_ack ws
-by_form ws (Some form.MRec) = recover ws
-by_form ws (Some form.MRecAck) = recover_ack ws
-by_form ws (Some form.MPromises) = promises ws
+-- the message of a form
+abbrev pub by_form : Form → List (List ℕ) → Result Message NotUnderstood
+by_form form.MPayload ws = payload ws
+by_form form.MPropose ws = propose ws
+by_form form.MProposeAck ws = propose_ack ws
+by_form form.MCommit ws = commit ws
+by_form form.MConsensus ws = consensus ws
+by_form form.MConsensusAck ws = consensus_ack ws
+by_form form.MRec ws = recover ws
+by_form form.MRecAck ws = recover_ack ws
+by_form form.MPromises ws = promises ws
 
--- the message that words say
+-- the message that words say: the first names its form
 abbrev pub said : List (List ℕ) → Result Message NotUnderstood
-said ws = by_form ws (form_named (slice_index_or ws 0 []))
+said [] = Err fault.Name
+said (name ∷ ws) = then (ok_or (form_named name) fault.Name) (λ form. by_form form ws)
 
 -- the message that a text says
 abbrev pub reading : List ℕ → Result Message NotUnderstood

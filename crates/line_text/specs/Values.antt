@@ -1,29 +1,29 @@
 -- A field as a word: its name, `=`, and its value.
 use Rattle.std.specs.Prelude.{ℕ, cond, List, ◌∷◌, ◌++◌, Some, None, Ok, Err, decimal, Option, Result}
-use Rattle.std.specs.Option.{unwrap_or}
+use Rattle.std.specs.Option.{unwrap_or, option_or}
 use Rattle.std.specs.Str.{bytes_eq}
 use Rattle.line_format.specs.declared.limits.Field.{Field}
 use Rattle.line_format.specs.declared.limits.Field.TheVariants as field
-use Rattle.line_text.specs.Labels.{label, word_of, department_number, kind_number, phase_number}
+use Rattle.line_text.specs.Labels.{label, word_of, named}
 use Rattle.line_text.specs.Lists.{cut}
 use Rattle.text_forms.specs.Numbers.{number}
 use Rattle.line_text.specs.Sets.{set_number, set_text}
 use Rattle.line_text.specs.declared.fault.NotUnderstood.{NotUnderstood}
 use Rattle.line_text.specs.declared.fault.NotUnderstood.TheVariants.{Expected}
 
--- the number that a field's value stands for
+-- the number that a word stands for, or that is written out; a set's members stand for its number
 abbrev pub number_of : Field → List ℕ → Option ℕ
 number_of field.Sender w = number w
 number_of field.Id w = number w
-number_of field.Department w = department_number w
-number_of field.Kind w = kind_number w
+number_of field.Department w = option_or (named field.Department w) (number w)
+number_of field.Kind w = option_or (named field.Kind w) (number w)
 number_of field.Hour w = number w
 number_of field.Slot w = number w
 number_of field.Value w = number w
 number_of field.Set w = set_number w
 number_of field.Timestamp w = number w
 number_of field.Ballot w = number w
-number_of field.Phase w = phase_number w
+number_of field.Phase w = option_or (named field.Phase w) (number w)
 number_of field.Accepted w = number w
 number_of field.Detached w = number w
 number_of field.Pairs w = number w

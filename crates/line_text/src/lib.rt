@@ -6,6 +6,7 @@ pub mod fields;
 mod lists;
 mod promises;
 pub mod reading;
+mod rest;
 pub mod showing;
 
 pub use fault::NotUnderstood;

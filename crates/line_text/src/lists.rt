@@ -1,12 +1,13 @@
 //! Lists joined by commas: read piece by piece, `none` where there is none.
 
-ghost use Rattle.std.specs.Prelude.{◌≡◌, ℕ, ◌<◌, List, [], ◌∷◌, ◌++◌, if◌then◌else◌, string_bytes, Option, OnOk};
-ghost use Rattle.std.specs.Option.{option_map};
-ghost use Rattle.line_text.specs.Lists.{cut, ends, listed, list_from};
+ghost use Rattle.std.specs.Prelude.{◌≡◌, ℕ, ◌<◌, List, [], ◌++◌, Option, OnOk};
+ghost use Rattle.std.specs.Option.{option_map, IfSome};
+ghost use Rattle.line_text.specs.Lists.{Appends, cut, ends, listed, comma, list_from};
 ghost use Rattle.line_text.specs.Sets.{with_member, set_text};
 
 use schedule::ControllerSet;
 use std::alloc::AllocError;
+use std::fmt;
 use text_forms::number::number;
 
 /// What stands before and after the first such character.
@@ -55,29 +56,36 @@ impl Gathering for ControllerSet {
     }
 }
 
-/// A comma before every piece of a list but the first.
-pub(crate) fn part(first: bool, out: &mut String) -> Result<(), AllocError>
-    ensures { OnOk result (string_bytes out.new ≡ string_bytes out.old ++ (if first then [] else 44 ∷ [])) }
+/// One more piece of a list, after a comma where it is not the first.
+pub(crate) fn add<P: fmt::Display>(
+    first: bool,
+    piece: &P,
+    out: &mut String,
+) -> Result<(), AllocError>
+    ensures { OnOk result (IfSome (P.output piece.now) (λ text. Appends out.old out.new (comma first ++ text))) }
 {
-    if first { Ok(()) } else { write!(out, ",") }
+    if first {
+        write!(out, "{piece}")
+    } else {
+        write!(out, ",{piece}")
+    }
 }
 
 /// The end of a list: `none` where there was no piece.
 pub(crate) fn finish(first: bool, out: &mut String) -> Result<(), AllocError>
-    ensures { OnOk result (string_bytes out.new ≡ string_bytes out.old ++ list_from [] first) }
+    ensures { OnOk result (Appends out.old out.new (list_from [] first)) }
 {
     if first { write!(out, "none") } else { Ok(()) }
 }
 
 /// A set's members as text.
 pub(crate) fn show_set(set: &ControllerSet, out: &mut String) -> Result<(), AllocError>
-    ensures { OnOk result (string_bytes out.new ≡ string_bytes out.old ++ set_text set.now.bits) }
+    ensures { OnOk result (Appends out.old out.new (set_text set.now.bits)) }
 {
     let mut first = true;
     for member in 1..33u32 {
         if set.contains(member) {
-            part(first, out)?;
-            write!(out, "{member}")?;
+            add(first, &member, out)?;
             first = false;
         }
     }

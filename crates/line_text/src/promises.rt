@@ -1,12 +1,14 @@
 //! The promises of a message: detached timestamps as ranges, and pairs.
 
-ghost use Rattle.std.specs.Prelude.{◌≡◌, ◌++◌, string_bytes, OnOk};
+ghost use Rattle.std.specs.Prelude.{◌≡◌, Some, OnOk};
+ghost use Rattle.line_text.specs.Lists.{Appends};
 ghost use Rattle.line_text.specs.Promises.{has, with_range, range_in, with_detached, none_yet, pair_in, with_next, with_pair, range_text, detached_text, pair_text, pairs_text};
 
-use crate::lists::{Gathering, cut, finish, part};
+use crate::lists::{Gathering, add, cut, finish};
 use line_format::message::{PAIRS, WORDS};
 use line_format::{Pair, Promises};
 use std::alloc::AllocError;
+use std::fmt;
 use text_forms::number::number;
 
 /// How many timestamps the words have bits for.
@@ -125,19 +127,26 @@ impl Gathering for Pairs {
     }
 }
 
-fn show_range(first: u32, last: u32, out: &mut String) -> Result<(), AllocError>
-    ensures { OnOk result (string_bytes out.new ≡ string_bytes out.old ++ range_text (first, last)) }
-{
-    if first == last {
-        write!(out, "{first}")
-    } else {
-        write!(out, "{first}-{last}")
+/// A range as text.
+#[derive(Clone, Copy)]
+struct ShownRange(u32, u32);
+
+impl fmt::Display for ShownRange {
+    ghost output = { λ range. Some (range_text (range.0, range.1)) };
+
+    fn fmt<W: fmt::Write>(&self, f: &mut fmt::Formatter<W>) -> fmt::Result {
+        let ShownRange(first, last) = *self;
+        if first == last {
+            write!(f, "{first}")
+        } else {
+            write!(f, "{first}-{last}")
+        }
     }
 }
 
 /// Detached timestamps as ranges.
 pub(crate) fn show_detached(words: &[u64; WORDS], out: &mut String) -> Result<(), AllocError>
-    ensures { OnOk result (string_bytes out.new ≡ string_bytes out.old ++ detached_text words.now) }
+    ensures { OnOk result (Appends out.old out.new (detached_text words.now)) }
 {
     let detached = Detached { words: *words };
     let mut first = true;
@@ -152,8 +161,7 @@ pub(crate) fn show_detached(words: &[u64; WORDS], out: &mut String) -> Result<()
             }
             Some(begin) => {
                 if !inside {
-                    part(first, out)?;
-                    show_range(begin, t - 1, out)?;
+                    add(first, &ShownRange(begin, t - 1), out)?;
                     first = false;
                     run = None;
                 }
@@ -163,24 +171,29 @@ pub(crate) fn show_detached(words: &[u64; WORDS], out: &mut String) -> Result<()
     finish(first, out)
 }
 
-fn show_pair(pair: &Pair, out: &mut String) -> Result<(), AllocError>
-    ensures { OnOk result (string_bytes out.new ≡ string_bytes out.old ++ pair_text pair.now) }
-{
-    let id = pair.id;
-    let timestamp = pair.timestamp;
-    write!(out, "{id}:{timestamp}")
+/// A pair as text.
+#[derive(Clone, Copy)]
+struct ShownPair<'a>(&'a Pair);
+
+impl fmt::Display for ShownPair<'_> {
+    ghost output = { λ paired. Some (pair_text paired.0.now) };
+
+    fn fmt<W: fmt::Write>(&self, f: &mut fmt::Formatter<W>) -> fmt::Result {
+        let id = self.0.id;
+        let timestamp = self.0.timestamp;
+        write!(f, "{id}:{timestamp}")
+    }
 }
 
 /// Pairs as text.
 pub(crate) fn show_pairs(promises: &Promises, out: &mut String) -> Result<(), AllocError>
-    ensures { OnOk result (string_bytes out.new ≡ string_bytes out.old ++ pairs_text promises.now) }
+    ensures { OnOk result (Appends out.old out.new (pairs_text promises.now)) }
 {
     let count = (promises.count as usize).min(PAIRS);
     let (used, _) = promises.pairs.split_at(count);
     let mut first = true;
     for pair in used {
-        part(first, out)?;
-        show_pair(pair, out)?;
+        add(first, &ShownPair(pair), out)?;
         first = false;
     }
     finish(first, out)

@@ -3,6 +3,7 @@
 ghost use Rattle.std.specs.Prelude.{◌≡◌, [], ◌∷◌, ◌++◌, string_bytes, OnOk};
 ghost use Rattle.line_format.specs.declared.message.Message.TheVariants.{MPromises};
 ghost use Rattle.line_text.specs.Labels.{label};
+ghost use Rattle.line_text.specs.Lists.{Appends};
 ghost use Rattle.line_text.specs.Laws.{ReadsBack, TypedReadsBack};
 ghost use Rattle.line_text.specs.Showing.{field_text, numbers_text, entry_numbers, fields_text, text};
 ghost use Rattle.line_text.specs.Values.{number_text};
@@ -17,14 +18,14 @@ use text_forms::Form;
 
 /// A space, and then the name of a field and `=`.
 fn show_label(field: Field, out: &mut String) -> Result<(), AllocError>
-    ensures { OnOk result (string_bytes out.new ≡ string_bytes out.old ++ (32 ∷ (label field ++ (61 ∷ [])))) }
+    ensures { OnOk result (Appends out.old out.new (32 ∷ (label field ++ (61 ∷ [])))) }
 {
     let name = label(field);
     write!(out, " {name}=")
 }
 
 fn show_field(field: Field, number: u32, out: &mut String) -> Result<(), AllocError>
-    ensures { OnOk result (string_bytes out.new ≡ string_bytes out.old ++ field_text field (number_text field number)) }
+    ensures { OnOk result (Appends out.old out.new (field_text field (number_text field number))) }
 {
     show_label(field, out)?;
     show_number(field, number, out)
@@ -32,7 +33,7 @@ fn show_field(field: Field, number: u32, out: &mut String) -> Result<(), AllocEr
 
 /// Fields, each with its number.
 fn show_numbers(fields: &[(Field, u32)], out: &mut String) -> Result<(), AllocError>
-    ensures { OnOk result (string_bytes out.new ≡ string_bytes out.old ++ numbers_text fields.now) }
+    ensures { OnOk result (Appends out.old out.new (numbers_text fields.now)) }
 {
     for (field, number) in fields {
         show_field(*field, *number, out)?;
@@ -48,7 +49,7 @@ fn show_change(
     set: &ControllerSet,
     out: &mut String,
 ) -> Result<(), AllocError>
-    ensures { OnOk result (string_bytes out.new ≡ string_bytes out.old ++ numbers_text (entry_numbers sender id change.now set.now.bits)) }
+    ensures { OnOk result (Appends out.old out.new (numbers_text (entry_numbers sender id change.now set.now.bits))) }
 {
     show_numbers(
         &[
@@ -66,7 +67,7 @@ fn show_change(
 }
 
 fn show_promises(sender: u32, promises: &Promises, out: &mut String) -> Result<(), AllocError>
-    ensures { OnOk result (string_bytes out.new ≡ string_bytes out.old ++ fields_text (MPromises sender promises.now)) }
+    ensures { OnOk result (Appends out.old out.new (fields_text (MPromises sender promises.now))) }
 {
     show_numbers(&[(Field::Sender, sender)], out)?;
     show_label(Field::Detached, out)?;
@@ -77,7 +78,7 @@ fn show_promises(sender: u32, promises: &Promises, out: &mut String) -> Result<(
 
 /// Adds a message's fields to a text.
 fn show_fields(message: &Message, out: &mut String) -> Result<(), AllocError>
-    ensures { OnOk result (string_bytes out.new ≡ string_bytes out.old ++ fields_text message.now) }
+    ensures { OnOk result (Appends out.old out.new (fields_text message.now)) }
 {
     match message {
         Message::MPayload {
@@ -165,7 +166,7 @@ pub fn show(message: &Message, out: &mut String) -> fmt::Result
     ensures back { ReadsBack }
     ensures typed { TypedReadsBack }
 {
-    let name = Form::of(message).name();
+    let name = Form::from(message);
     write!(out, "{name}")?;
     show_fields(message, out)?;
     Ok(())

@@ -39,7 +39,7 @@ impl Account {
     }
 
     pub(crate) fn count_read(&mut self, message: &Message) {
-        let place = Form::of(message) as usize;
+        let place = Form::from(message) as usize;
         self.read[place] = self.read[place].saturating_add(1);
     }
 
@@ -59,11 +59,9 @@ impl Account {
     }
 
     fn all_read(&self) -> u64 {
-        let mut all: u64 = 0;
-        for count in self.read {
-            all = all.saturating_add(count);
-        }
-        all
+        self.read
+            .iter()
+            .fold(0, |all, count| all.saturating_add(*count))
     }
 }
 
@@ -78,10 +76,10 @@ impl fmt::Display for Account {
         }
         let written = self.written;
         writeln!(f, "written         {written:>8}")?;
-        let malformed = self.malformed;
-        writeln!(f, "refused 13      {malformed:>8}")?;
-        let outside = self.outside;
-        writeln!(f, "refused 14      {outside:>8}")?;
+        let malformed = LineFault::Malformed.number();
+        writeln!(f, "refused {malformed:<8}{:>8}", self.malformed)?;
+        let outside = LineFault::OutsideLimits.number();
+        writeln!(f, "refused {outside:<8}{:>8}", self.outside)?;
         let lost = self.not_understood;
         write!(f, "not understood  {lost:>8}")
     }

@@ -48,10 +48,10 @@ impl From<FiguresFault> for NoFigures {
 /// The figures that two numbers, R and F, give.
 pub(crate) fn figures(heap: Global, line: &str) -> Result<Figures, NoFigures> {
     let given = words(heap, line)?;
-    if given.len() != 2 {
+    let [r, f] = given.as_slice() else {
         return Err(NoFigures::NotTwoNumbers);
-    }
-    let r = number(given[0]).ok_or(NoFigures::NotTwoNumbers)?;
-    let f = number(given[1]).ok_or(NoFigures::NotTwoNumbers)?;
+    };
+    let r = number(r).ok_or(NoFigures::NotTwoNumbers)?;
+    let f = number(f).ok_or(NoFigures::NotTwoNumbers)?;
     Ok(Figures::new(r, f)?)
 }

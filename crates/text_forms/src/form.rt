@@ -1,9 +1,13 @@
 //! The nine forms of a message, and their names.
 
-ghost use Rattle.std.specs.Prelude.{◌≡◌};
+ghost use Rattle.std.specs.Prelude.{◌≡◌, Some, ok_or};
+ghost use Rattle.schedule.specs.Changes.{nameless};
 ghost use Rattle.text_forms.specs.Forms.{form_of, form_name, form_named};
 
 use line_format::Message;
+use schedule::UnknownName;
+use std::fmt;
+use std::str::FromStr;
 
 /// Which message: its name, whatever its fields hold.
 #[derive(Clone, Copy, PartialEq, Eq, Debug)]
@@ -19,11 +23,11 @@ pub enum Form {
     MPromises,
 }
 
-impl Form {
-    /// The form of a message.
-    pub fn of(message: &Message) -> Form
-        ensures { result ≡ form_of message.now }
-    {
+/// The form of a message.
+impl From<&Message> for Form {
+    ghost from_gives = { λ message form. form ≡ form_of message.now };
+
+    fn from(message: &Message) -> Form {
         match message {
             Message::MPayload { .. } => Form::MPayload,
             Message::MPropose { .. } => Form::MPropose,
@@ -36,7 +40,9 @@ impl Form {
             Message::MPromises { .. } => Form::MPromises,
         }
     }
+}
 
+impl Form {
     /// The form's name.
     pub fn name(&self) -> &'static str
         ensures { result.now ≡ form_name self.now }
@@ -53,22 +59,34 @@ impl Form {
             Form::MPromises => "MPromises",
         }
     }
+}
 
-    /// The form of this name.
-    pub fn named(text: &str) -> Option<Form>
-        ensures { result ≡ form_named text.now }
-    {
+impl fmt::Display for Form {
+    ghost output = { λ form. Some (form_name form) };
+
+    fn fmt<W: fmt::Write>(&self, f: &mut fmt::Formatter<W>) -> fmt::Result {
+        f.write_str(self.name())
+    }
+}
+
+/// The form of a name.
+impl FromStr for Form {
+    type Err = UnknownName;
+
+    ghost from_str_gives = { λ text answer. answer ≡ ok_or (form_named text) nameless };
+
+    fn from_str(text: &str) -> Result<Form, UnknownName> {
         match text {
-            "MPayload" => Some(Form::MPayload),
-            "MPropose" => Some(Form::MPropose),
-            "MProposeAck" => Some(Form::MProposeAck),
-            "MCommit" => Some(Form::MCommit),
-            "MConsensus" => Some(Form::MConsensus),
-            "MConsensusAck" => Some(Form::MConsensusAck),
-            "MRec" => Some(Form::MRec),
-            "MRecAck" => Some(Form::MRecAck),
-            "MPromises" => Some(Form::MPromises),
-            _ => None,
+            "MPayload" => Ok(Form::MPayload),
+            "MPropose" => Ok(Form::MPropose),
+            "MProposeAck" => Ok(Form::MProposeAck),
+            "MCommit" => Ok(Form::MCommit),
+            "MConsensus" => Ok(Form::MConsensus),
+            "MConsensusAck" => Ok(Form::MConsensusAck),
+            "MRec" => Ok(Form::MRec),
+            "MRecAck" => Ok(Form::MRecAck),
+            "MPromises" => Ok(Form::MPromises),
+            _ => Err(UnknownName),
         }
     }
 }

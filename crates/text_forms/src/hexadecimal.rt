@@ -1,8 +1,8 @@
 //! Bytes in hexadecimal.
 
-ghost use Rattle.std.specs.Prelude.{◌≡◌, ◌<◌, ◌++◌, IfOk, vec_items, string_bytes, OnOk};
+ghost use Rattle.std.specs.Prelude.{◌≡◌, ◌++◌, IfOk, vec_items, string_bytes, OnOk};
 ghost use Rattle.std.specs.Option.{option_map};
-ghost use Rattle.text_forms.specs.Hexadecimal.{digit_value, hexadecimal, bytes_of, digit_of, spaced, bytes_text, BytesBack};
+ghost use Rattle.text_forms.specs.Hexadecimal.{digit_value, hexadecimal, bytes_of, spaced, bytes_text, BytesBack};
 
 use std::alloc::{AllocError, Global};
 use std::fmt;
@@ -11,24 +11,16 @@ use std::fmt;
 fn digit(c: u8) -> Option<u8>
     ensures { result ≡ digit_value c }
 {
-    match c {
-        b'0'..=b'9' => Some(c - b'0'),
-        b'a'..=b'f' => Some(c - b'a' + 10),
-        b'A'..=b'F' => Some(c - b'A' + 10),
-        _ => None,
-    }
+    char::from(c).to_digit(16).map(|value| value as u8)
 }
 
 /// Whether a text is hexadecimal digits and spaces alone.
 pub fn is_hexadecimal(text: &str) -> bool
     ensures { result ≡ hexadecimal text.now }
 {
-    for c in text.as_bytes() {
-        if *c != b' ' && digit(*c).is_none() {
-            return false;
-        }
-    }
-    true
+    text.as_bytes()
+        .iter()
+        .all(|c| *c == b' ' || digit(*c).is_some())
 }
 
 /// The bytes that pairs of hexadecimal digits stand for, spaces left out; none where the text is not such pairs.
@@ -37,6 +29,7 @@ pub fn bytes(heap: Global, text: &str) -> Result<Option<Vec<u8>>, AllocError>
 {
     let mut bytes = Vec::new(heap);
     let mut high = None;
+    // kept: a `for`, since a chain that collects stops at no digit, and a digit waits for its second.
     for c in text.as_bytes() {
         if *c == b' ' {
             continue;
@@ -58,28 +51,14 @@ pub fn bytes(heap: Global, text: &str) -> Result<Option<Vec<u8>>, AllocError>
     Ok(Some(bytes))
 }
 
-/// The digit of a value below 16.
-fn digit_of(value: u8) -> char
-    requires { value < 16 }
-    ensures { result ≡ digit_of value }
-{
-    if value < 10 {
-        (b'0' + value) as char
-    } else {
-        (b'a' + (value - 10)) as char
-    }
-}
-
 /// A byte, after a space where there is one.
 fn show_byte(space: bool, byte: u8, out: &mut String) -> Result<(), AllocError>
     ensures { OnOk result (string_bytes out.new ≡ string_bytes out.old ++ spaced space byte) }
 {
-    let high = digit_of(byte / 16);
-    let low = digit_of(byte % 16);
     if space {
-        write!(out, " {high}{low}")
+        write!(out, " {byte:02x}")
     } else {
-        write!(out, "{high}{low}")
+        write!(out, "{byte:02x}")
     }
 }
 

@@ -2,17 +2,13 @@
 
 ghost use Rattle.std.specs.Prelude.{◌≡◌};
 ghost use Rattle.text_forms.specs.Numbers.{number};
+
 /// The number that a text stands for: digits alone, no zero in front, below 2^32.
 pub fn number(text: &str) -> Option<u32>
     ensures { result ≡ number text.now }
 {
-    let bytes = text.as_bytes();
-    if bytes.is_empty() {
-        return None;
+    match text.as_bytes() {
+        [b'+', ..] | [b'0', _, ..] => None,
+        _ => text.parse::<u32>().ok(),
     }
-    let first = bytes[0];
-    if first == b'+' || first == b'0' && bytes.len() > 1 {
-        return None;
-    }
-    text.parse::<u32>().ok()
 }

@@ -3,7 +3,7 @@ use Rattle.std.proofs.lemmas.Result.{IfOk-weaker}
 use Rattle.line_text.specs.Lists.{list_from}
 use Rattle.line_text.proofs.Shown.{one_more, member_next, member_skip, members_done}
 use Rattle.line_text.proofs.lists.show_set.Goals as goal
-use Rattle.line_text.proofs.lists.show_set.Goals.{then-contains+in_ok-part+in_ok-write, else-contains}
+use Rattle.line_text.proofs.lists.show_set.Goals.{then-contains+in_ok-add, else-contains}
 
 pub loop-member-init : goal.loop-member-init
 loop-member-init c = refl
@@ -13,9 +13,9 @@ loop-member-preserved c =
     let j = c.loop-member.member-counter in
     let bits = c.args.set.now.bits in
     elim c.if-contains.branch [
-      | then-contains+in_ok-part+in_ok-write w ↦
+      | then-contains+in_ok-add w ↦
           let next = ap (map decimal) (member_next bits j 33 (omega arith) (sym w.if-contains.ensures)) in
-          let shown = one_more _ _ _ (decimal j) _ c.loop-member.first _ _ w.in_ok-part.ensures w.in_ok-write.ensures.bytes next c.loop-member.invariant in
+          let shown = one_more _ _ (decimal j) _ c.loop-member.first _ _ w.in_ok-add.ensures next c.loop-member.invariant in
           cc
       | else-contains w ↦ let next = member_skip bits j 33 (omega arith) (sym w.if-contains.ensures) in let inv = c.loop-member.invariant in cc
     ]

@@ -4,7 +4,7 @@ use Rattle.line_text.specs.Lists.{list_from}
 use Rattle.line_text.specs.Promises.{range_text, ranges_from}
 use Rattle.line_text.proofs.Shown.{one_more, run_opens, run_waits, run_goes_on, run_ends, ranges_done}
 use Rattle.line_text.proofs.promises.show_detached.Goals as goal
-use Rattle.line_text.proofs.promises.show_detached.Goals.{in-None+then-inside, in-None+else-inside, in-Some+then-not-inside+in_ok-part-in-Some+in_ok-show_range-in-Some, in-Some+else-not-inside}
+use Rattle.line_text.proofs.promises.show_detached.Goals.{in-None+then-inside, in-None+else-inside, in-Some+then-not-inside+in_ok-add-in-Some, in-Some+else-not-inside}
 
 pub loop-t-preserved : goal.loop-t-preserved
 loop-t-preserved c =
@@ -15,9 +15,9 @@ loop-t-preserved c =
     elim c.match-run.branch [
       | in-None+then-inside w ↦ let next = run_opens ws t 1602 (omega arith) (sym told ∙ w.if-inside.true) in cc
       | in-None+else-inside w ↦ let next = run_waits ws t 1602 (omega arith) (sym told ∙ w.if-inside.false) in cc
-      | in-Some+then-not-inside+in_ok-part-in-Some+in_ok-show_range-in-Some w ↦
+      | in-Some+then-not-inside+in_ok-add-in-Some w ↦
           let next = ap (map range_text) (ap (λ r. ranges_from ws r t (1602 - t)) w.in-Some.is ∙ run_ends ws t 1602 (omega arith) w.in-Some.begin (sym told ∙ w.if-not-inside.true)) in
-          let shown = one_more _ _ _ _ _ c.loop-t.first _ _ w.in_ok-part-in-Some.ensures w.in_ok-show_range-in-Some.ensures next inv in cc
+          let shown = one_more _ _ _ _ c.loop-t.first _ _ w.in_ok-add-in-Some.ensures next inv in cc
       | in-Some+else-not-inside w ↦ let next = run_goes_on ws t 1602 (omega arith) w.in-Some.begin (sym told ∙ w.if-not-inside.false) in cc
     ]
 

@@ -10,7 +10,7 @@ use Rattle.line_text.proofs.promises.show_pairs.Goals as goal
 pub loop-pair-preserved : goal.loop-pair-preserved
 loop-pair-preserved c =
     let next = ap (map pair_text) (drop_more c.split_at.result.0.now c.loop-pair.pair-index no_pair (omega arith)) in
-    one_more _ _ _ _ _ c.loop-pair.first _ _ c.in_ok-part.ensures c.in_ok-show_pair.ensures next c.loop-pair.invariant
+    one_more _ _ _ _ c.loop-pair.first _ _ c.in_ok-add.ensures next c.loop-pair.invariant
 
 pub returns : goal.returns
 returns c =

@@ -13,10 +13,10 @@ returns-in_err-show_fields c = record { shown = search rules; back = reads_back;
 
 pub returns : goal.returns
 returns c =
-    let name = c.name-name.ensures ∙ ap form_name c.of.ensures in
+    let name = ap form_name c.from-name.ensures in
     let out = string_bytes c.args.out.now in
     record {
-      shown = one_then_one out c.name-name.result.now (fields_text c.args.message.now) _ _ c.in_ok-write.ensures.bytes c.in_ok-show_fields.ensures ∙ ap (λ l. out ++ (l ++ fields_text c.args.message.now)) name;
+      shown = one_then_one out (form_name c.from-name.result) (fields_text c.args.message.now) _ _ c.in_ok-write.ensures.bytes c.in_ok-show_fields.ensures ∙ ap (λ l. out ++ (l ++ fields_text c.args.message.now)) name;
       back = reads_back;
       typed = typed_reads_back;
     }

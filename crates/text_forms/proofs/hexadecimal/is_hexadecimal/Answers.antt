@@ -1,16 +1,16 @@
-use Rattle.std.proofs.Common.{sym, ◌∙◌, arith}
-use Rattle.std.proofs.lemmas.List.{at_drop_more, at_drop_all}
-use Rattle.std.proofs.lemmas.Bool.Decides.{nat_tests}
-use Rattle.text_forms.specs.Hexadecimal.{hexadecimal}
+use Rattle.std.proofs.Common.{ℕ, Bool, ◌&&◌, ◌||◌, eqb, is_some, sym, refl, ◌∙◌, rules, tests}
+use Rattle.std.specs.List.{list_all}
+use Rattle.std.proofs.lemmas.Iterator.{YieldsList-from_slice}
+use Rattle.std.proofs.lemmas.Iterator.Search.{all_from_yields_List}
+use Rattle.std.proofs.lemmas.List.Recursion.{same_from_clauses}
+use Rattle.text_forms.specs.Hexadecimal.{digit_value, hexadecimal}
 use Rattle.text_forms.proofs.hexadecimal.is_hexadecimal.Goals as goal
 
-pub returns-then-is_none : goal.returns-then-is_none
-returns-then-is_none c =
-    let e = at_drop_more hexadecimal c.args.text.now c.loop-c.c-index 0 (omega arith) in grind (arith, nat_tests)
-
-pub loop-c-preserved : goal.loop-c-preserved
-loop-c-preserved c =
-    let e = at_drop_more hexadecimal c.args.text.now c.loop-c.c-index 0 (omega arith) in grind (arith, nat_tests)
+abbrev passes : ℕ → Bool
+passes c = eqb c 32 || is_some (digit_value c)
 
 pub returns : goal.returns
-returns c = sym (c.loop-c.invariant ∙ at_drop_all hexadecimal c.args.text.now c.loop-c.c-index (omega arith))
+returns c =
+    let text = c.args.text.now in
+    all_from_yields_List passes _ _ _ c.all.ensures.ran (YieldsList-from_slice text cc) (λ x b q k. search (rules, tests))
+    ∙ sym (same_from_clauses hexadecimal (list_all passes) (λ x b. passes x && b) refl (λ _ _. refl) (λ _ _. refl) text)

@@ -1,11 +1,9 @@
-use Rattle.std.proofs.Common.{◌∙◌, rules}
-use Rattle.std.proofs.lemmas.Str.Parse.{parse_plain}
-use Rattle.text_forms.proofs.Numerals.{own, number_of_plus, number_of_zeros, number_of_parsed}
+use Rattle.std.proofs.Common.{get_or, length, ap, ◌∙◌, arith}
+use Rattle.text_forms.proofs.Numerals.{number_of_plain}
 use Rattle.text_forms.proofs.number.number.Goals as goal
 
-pub returns-then-first-eq43 : goal.returns-then-first-eq43
-returns-then-first-eq43 c = search (rules, number_of_plus, number_of_zeros)
-
-pub returns : goal.returns
-returns c =
-    c.ok.ensures.value ∙ number_of_parsed c.args.text.now _ (parse_plain own 32 c.args.text.now _ c.parse.ensures.value.0 (search rules)) (search rules)
+pub returns-in_default : goal.returns-in_default
+returns-in_default c =
+    let same = ap (λ l. get_or l 0 0) c.as_bytes.ensures.value in
+    let size = ap length c.as_bytes.ensures.value in
+    c.ok.ensures.value ∙ number_of_plain c.args.text.now _ c.parse.ensures.value.0 (λ some e. grind arith) (λ e. grind arith)
