@@ -1,14 +1,13 @@
 -- The entries of the search, and steps of the loops over the records and the pairs, one place on.
 use Rattle.std.proofs.Common.{◌≡◌, ℕ, suc, ◌+◌, ◌<◌, ◌≤◌, true, false, cond, eqb, List, [], ◌∷◌, ◌++◌, length, get_or, take, drop, set, None, Option, sym, refl, ap, ◌∙◌, ap₂, add-one, arith}
-use Rattle.std.proofs.lemmas.List.{at_drop_more, at_drop_all, take_more_set, take_all, append_assoc, append-nil, length-take-le, drop-set-lt, drop-drop, get_or_past, take-append-drop}
-use Rattle.std.proofs.lemmas.Bool.{and_left, and_right, cond-true, cond-false, lt-leb, ltb-false, cases_lt}
+use Rattle.std.proofs.lemmas.List.{at_drop_more, at_drop_all, take_more_set, append_assoc, append-nil, length-take-le, drop-set-lt, drop-drop, take-append-drop}
+use Rattle.std.proofs.lemmas.Bool.{cond-true, cond-false}
 use Rattle.line_format.specs.declared.message.Pair.{Pair}
 use Rattle.line_format.specs.Reading.{no_pair}
 use Rattle.ranking.specs.declared.due.Due.{Due}
-use Rattle.schedule.specs.Phases.{settled}
 use Rattle.record.specs.Rows.{blank}
 use Rattle.record.specs.declared.row.Row.{Row}
-use Rattle.tables.specs.Tables.{pairs_from, own_promises, settled_at, with_pair, with_pairs, due_entry, due_from}
+use Rattle.tables.specs.Tables.{pairs_from, own_promises, with_pair, with_pairs, due_entry, due_from}
 
 -- the list that has at each place the entry of the record there
 pub due_is : (s id : ℕ) (es : List (Option Due)) (ws : List Row) → length es ≡ length ws → ((k : ℕ) (d : Option Due) → k < length es → get_or es k d ≡ due_entry s (k + id) (get_or ws k blank)) → es ≡ due_from s id ws
