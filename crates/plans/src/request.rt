@@ -85,9 +85,14 @@ fn asked_of(words: [Option<&str>; 6]) -> Result<Request, Misread>
             let (hour, slot) = place_of(hour, slot)?;
             Ok(Request::Reading(hour, slot))
         }
-        [Some(of), Some(to_do), Some(hour), Some(slot), Some(value), None] => {
-            Ok(Request::Carrying(change_of(of, to_do, hour, slot, value)?))
-        }
+        [
+            Some(of),
+            Some(to_do),
+            Some(hour),
+            Some(slot),
+            Some(value),
+            None,
+        ] => { Ok(Request::Carrying(change_of(of, to_do, hour, slot, value)?)) }
         _ => Err(Misread::OtherWords),
     }
 }
