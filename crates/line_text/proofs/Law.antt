@@ -47,8 +47,7 @@ pieces_text w [] h g = ap (pieces 32) (append-nil w) ∙ pieces_whole 32 w (lack
 pieces_text w (e ∷ es) h g =
     let v = number_text e.0 e.1 in
     let rest = numbers_text es in
-    ap (λ l. pieces 32 (w ++ (32 ∷ (l ++ rest)))) (append_assoc (label e.0) (61 ∷ []) v)
-    ∙ pieces_at 32 w (entry_word e ++ rest) (lacks_at 32 w h)
+    pieces_at 32 w (entry_word e ++ rest) (lacks_at 32 w h)
     ∙ ap (λ l. w ∷ l) (pieces_text (entry_word e) es (word_lacks e.0 v g.0.0) g.1)
 
 filled_words : (es : List (Field × ℕ)) → filled (map entry_word es) ≡ map entry_word es
@@ -65,7 +64,7 @@ numbers_append : (xs ys : List (Field × ℕ)) → numbers_text xs ++ numbers_te
 unfolding numbers_text
 numbers_append [] ys = refl
 numbers_append (x ∷ xs) ys =
-    let first = (32 ∷ (label x.0 ++ (61 ∷ []))) ++ number_text x.0 x.1 in
+    let first = field_text x.0 (number_text x.0 x.1) in
     append_assoc first (numbers_text xs) (numbers_text ys) ∙ ap (λ l. first ++ l) (numbers_append xs ys)
 
 -- where no field is unfit, each fits

@@ -6,13 +6,12 @@ use Rattle.line_format.specs.declared.limits.Field.TheVariants.{Sender, Id, Depa
 use Rattle.line_format.specs.declared.message.Message.{Message}
 use Rattle.line_format.specs.declared.message.Message.TheVariants.{MPayload, MPropose, MProposeAck, MCommit, MConsensus, MConsensusAck, MRec, MRecAck, MPromises}
 use Rattle.text_forms.specs.Forms.{form_of, form_name}
-use Rattle.line_text.specs.Labels.{label}
 use Rattle.line_text.specs.Promises.{detached_text, pairs_text}
-use Rattle.line_text.specs.Values.{number_text}
+use Rattle.line_text.specs.Values.{number_text, word}
 
 -- a space, then the field as a word
 abbrev pub field_text : Field → List ℕ → List ℕ
-field_text f value = (32 ∷ (label f ++ (61 ∷ []))) ++ value
+field_text f value = 32 ∷ word f value
 
 -- fields, each with its number
 unfoldable pub numbers_text : List (Field × ℕ) → List ℕ

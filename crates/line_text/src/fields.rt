@@ -1,16 +1,16 @@
 //! A field as a word: its name, `=`, and its value.
 
-ghost use Rattle.std.specs.Prelude.{◌≡◌, decimal, OnOk};
+ghost use Rattle.std.specs.Prelude.{◌≡◌, Some, decimal};
+ghost use Rattle.std.specs.Fmt.{WritesOnOk};
 ghost use Rattle.std.specs.Option.{option_map, unwrap_or};
-ghost use Rattle.line_text.specs.Lists.{Appends};
 ghost use Rattle.line_text.specs.Labels.{label, pending_phase, word_of, named};
 ghost use Rattle.line_text.specs.Values.{number_of, number_text, value_in, told};
 
 use crate::fault::NotUnderstood;
-use crate::lists::{cut, gather, show_set};
+use crate::lists::{Members, cut, gather};
 use line_format::Field;
 use schedule::{ControllerSet, Department, Kind, Phase};
-use std::alloc::AllocError;
+use std::fmt;
 use text_forms::number::number;
 
 /// The name of a field.
@@ -82,22 +82,32 @@ pub(crate) fn number_of(field: Field, text: &str) -> Option<u32>
 }
 
 /// A word where there is one, else the number.
-fn show_word(word: Option<&str>, number: u32, out: &mut String) -> Result<(), AllocError>
-    ensures { OnOk result (Appends out.old out.new (unwrap_or (option_map (λ x. x.now) word.entry) (decimal number))) }
+fn show_word<W: fmt::Write>(
+    word: Option<&str>,
+    number: u32,
+    f: &mut fmt::Formatter<W>,
+) -> fmt::Result
+    ensures { WritesOnOk W.write_str_gives f.old result (unwrap_or (option_map (λ x. x.now) word.entry) (decimal number)) f.new }
 {
     match word {
-        Some(name) => write!(out, "{name}"),
-        None => write!(out, "{number}"),
+        Some(name) => write!(f, "{name}"),
+        None => write!(f, "{number}"),
     }
 }
 
 /// A field's value as text: a word or a set's members where the field has such, else the number.
-pub(crate) fn show_number(field: Field, number: u32, out: &mut String) -> Result<(), AllocError>
-    ensures { OnOk result (Appends out.old out.new (number_text field number)) }
-{
-    match field {
-        Field::Set => show_set(&ControllerSet { bits: number }, out),
-        _ => show_word(word_of(field, number), number, out),
+#[derive(Clone, Copy)]
+pub(crate) struct ShownNumber(pub Field, pub u32);
+
+impl fmt::Display for ShownNumber {
+    ghost output = { λ shown. Some (number_text shown.0 shown.1) };
+
+    fn fmt<W: fmt::Write>(&self, f: &mut fmt::Formatter<W>) -> fmt::Result {
+        let ShownNumber(field, number) = *self;
+        match field {
+            Field::Set => write!(f, "{}", Members(number)),
+            _ => show_word(word_of(field, number), number, f),
+        }
     }
 }
 

@@ -1,12 +1,12 @@
 //! Lists joined by commas: read piece by piece, `none` where there is none.
 
-ghost use Rattle.std.specs.Prelude.{◌≡◌, ℕ, ◌<◌, List, [], ◌++◌, Option, OnOk};
-ghost use Rattle.std.specs.Option.{option_map, IfSome};
-ghost use Rattle.line_text.specs.Lists.{Appends, cut, ends, listed, comma, list_from};
+ghost use Rattle.std.specs.Prelude.{◌≡◌, ℕ, ◌<◌, List, [], Option, Some};
+ghost use Rattle.std.specs.Option.{option_map};
+ghost use Rattle.std.specs.Fmt.{DisplaysOnOk, WritesOnOk, ◌++?◌};
+ghost use Rattle.line_text.specs.Lists.{cut, ends, listed, comma, list_from};
 ghost use Rattle.line_text.specs.Sets.{with_member, set_text};
 
 use schedule::ControllerSet;
-use std::alloc::AllocError;
 use std::fmt;
 use text_forms::number::number;
 
@@ -34,6 +34,7 @@ pub(crate) fn gather<G: Gathering>(start: G, text: &str) -> Option<G>
     if text == "none" {
         return Some(start);
     }
+    // kept: a `for` with `?`, since the clause says that the list fails where a piece fails, which no chain's clause gives.
     let mut gathered = start;
     for piece in text.split(',') {
         gathered = gathered.with(piece)?;
@@ -57,37 +58,43 @@ impl Gathering for ControllerSet {
 }
 
 /// One more piece of a list, after a comma where it is not the first.
-pub(crate) fn add<P: fmt::Display>(
+pub(crate) fn add<P: fmt::Display, W: fmt::Write>(
     first: bool,
     piece: &P,
-    out: &mut String,
-) -> Result<(), AllocError>
-    ensures { OnOk result (IfSome (P.output piece.now) (λ text. Appends out.old out.new (comma first ++ text))) }
+    f: &mut fmt::Formatter<W>,
+) -> fmt::Result
+    ensures { DisplaysOnOk W.write_str_gives f.old result (Some (comma first) ++? P.output piece.now) f.new }
 {
     if first {
-        write!(out, "{piece}")
+        write!(f, "{piece}")
     } else {
-        write!(out, ",{piece}")
+        write!(f, ",{piece}")
     }
 }
 
 /// The end of a list: `none` where there was no piece.
-pub(crate) fn finish(first: bool, out: &mut String) -> Result<(), AllocError>
-    ensures { OnOk result (Appends out.old out.new (list_from [] first)) }
+pub(crate) fn finish<W: fmt::Write>(first: bool, f: &mut fmt::Formatter<W>) -> fmt::Result
+    ensures { WritesOnOk W.write_str_gives f.old result (list_from [] first) f.new }
 {
-    if first { write!(out, "none") } else { Ok(()) }
+    if first { write!(f, "none") } else { Ok(()) }
 }
 
 /// A set's members as text.
-pub(crate) fn show_set(set: &ControllerSet, out: &mut String) -> Result<(), AllocError>
-    ensures { OnOk result (Appends out.old out.new (set_text set.now.bits)) }
-{
-    let mut first = true;
-    for member in 1..33u32 {
-        if set.contains(member) {
-            add(first, &member, out)?;
-            first = false;
+#[derive(Clone, Copy)]
+pub(crate) struct Members(pub u32);
+
+impl fmt::Display for Members {
+    ghost output = { λ members. Some (set_text members.0) };
+
+    fn fmt<W: fmt::Write>(&self, f: &mut fmt::Formatter<W>) -> fmt::Result {
+        let set = ControllerSet { bits: self.0 };
+        let mut first = true;
+        for member in 1..33u32 {
+            if set.contains(member) {
+                add(first, &member, f)?;
+                first = false;
+            }
         }
+        finish(first, f)
     }
-    finish(first, out)
 }

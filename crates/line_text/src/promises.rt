@@ -1,13 +1,11 @@
 //! The promises of a message: detached timestamps as ranges, and pairs.
 
-ghost use Rattle.std.specs.Prelude.{◌≡◌, Some, OnOk};
-ghost use Rattle.line_text.specs.Lists.{Appends};
+ghost use Rattle.std.specs.Prelude.{◌≡◌, Some};
 ghost use Rattle.line_text.specs.Promises.{has, with_range, range_in, with_detached, none_yet, pair_in, with_next, with_pair, range_text, detached_text, pair_text, pairs_text};
 
 use crate::lists::{Gathering, add, cut, finish};
 use line_format::message::{PAIRS, WORDS};
 use line_format::{Pair, Promises};
-use std::alloc::AllocError;
 use std::fmt;
 use text_forms::number::number;
 
@@ -15,6 +13,7 @@ use text_forms::number::number;
 pub const BITS: u32 = 1600;
 
 /// Detached timestamps, a bit for each.
+// kept: beside promise_words' timestamps, which end at 1568 and leave out what lies above; here all 1600 bits are read back, and a range above them is refused.
 #[derive(Clone, Copy)]
 pub struct Detached {
     pub words: [u64; WORDS],
@@ -67,6 +66,7 @@ impl Gathering for Detached {
 }
 
 /// The pairs so far; a count above what there is room for says that there were too many.
+// kept: a count beside the places, as a message's promises have it, where a count may be too great; there is no heap.
 #[derive(Clone, Copy)]
 pub struct Pairs {
     pub count: u32,
@@ -145,30 +145,35 @@ impl fmt::Display for ShownRange {
 }
 
 /// Detached timestamps as ranges.
-pub(crate) fn show_detached(words: &[u64; WORDS], out: &mut String) -> Result<(), AllocError>
-    ensures { OnOk result (Appends out.old out.new (detached_text words.now)) }
-{
-    let detached = Detached { words: *words };
-    let mut first = true;
-    let mut run = None;
-    for t in 1..BITS + 2 {
-        let inside = detached.contains(t);
-        match run {
-            None => {
-                if inside {
-                    run = Some(t);
+#[derive(Clone, Copy)]
+pub(crate) struct ShownDetached<'a>(pub &'a [u64; WORDS]);
+
+impl fmt::Display for ShownDetached<'_> {
+    ghost output = { λ shown. Some (detached_text shown.0.now) };
+
+    fn fmt<W: fmt::Write>(&self, f: &mut fmt::Formatter<W>) -> fmt::Result {
+        let detached = Detached { words: *self.0 };
+        let mut first = true;
+        let mut run = None;
+        for t in 1..BITS + 2 {
+            let inside = detached.contains(t);
+            match run {
+                None => {
+                    if inside {
+                        run = Some(t);
+                    }
                 }
-            }
-            Some(begin) => {
-                if !inside {
-                    add(first, &ShownRange(begin, t - 1), out)?;
-                    first = false;
-                    run = None;
+                Some(begin) => {
+                    if !inside {
+                        add(first, &ShownRange(begin, t - 1), f)?;
+                        first = false;
+                        run = None;
+                    }
                 }
             }
         }
+        finish(first, f)
     }
-    finish(first, out)
 }
 
 /// A pair as text.
@@ -186,15 +191,21 @@ impl fmt::Display for ShownPair<'_> {
 }
 
 /// Pairs as text.
-pub(crate) fn show_pairs(promises: &Promises, out: &mut String) -> Result<(), AllocError>
-    ensures { OnOk result (Appends out.old out.new (pairs_text promises.now)) }
-{
-    let count = (promises.count as usize).min(PAIRS);
-    let (used, _) = promises.pairs.split_at(count);
-    let mut first = true;
-    for pair in used {
-        add(first, &ShownPair(pair), out)?;
-        first = false;
+#[derive(Clone, Copy)]
+pub(crate) struct ShownPairs<'a>(pub &'a Promises);
+
+impl fmt::Display for ShownPairs<'_> {
+    ghost output = { λ shown. Some (pairs_text shown.0.now) };
+
+    fn fmt<W: fmt::Write>(&self, f: &mut fmt::Formatter<W>) -> fmt::Result {
+        let promises = self.0;
+        let count = (promises.count as usize).min(PAIRS);
+        let (used, _) = promises.pairs.split_at(count);
+        let mut first = true;
+        for pair in used {
+            add(first, &ShownPair(pair), f)?;
+            first = false;
+        }
+        finish(first, f)
     }
-    finish(first, out)
 }

@@ -29,7 +29,7 @@ pub fn bytes(heap: Global, text: &str) -> Result<Option<Vec<u8>>, AllocError>
 {
     let mut bytes = Vec::new(heap);
     let mut high = None;
-    // kept: a `for`, since a chain that collects stops at no digit, and a digit waits for its second.
+    // kept: a `for`; a fold would carry the bytes and the digit that waits for its second, allocate, and stop in two ways.
     for c in text.as_bytes() {
         if *c == b' ' {
             continue;
