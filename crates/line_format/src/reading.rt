@@ -26,7 +26,16 @@ fn hyper_at(bytes: &[u8], at: usize) -> u64
     requires { at + 8 ≤ length bytes.now }
     ensures { result ≡ hyper_at bytes.now at }
 {
-    (u64::from(int_at(bytes, at)) << 32) + u64::from(int_at(bytes, at + 4))
+    u64::from_be_bytes([
+        bytes[at],
+        bytes[at + 1],
+        bytes[at + 2],
+        bytes[at + 3],
+        bytes[at + 4],
+        bytes[at + 5],
+        bytes[at + 6],
+        bytes[at + 7],
+    ])
 }
 
 fn pair_at(bytes: &[u8], at: usize) -> Pair
