@@ -1,5 +1,5 @@
 -- How many sets hold 1 to s, and the greatest s that enough of them hold.
-use Rattle.std.proofs.Common.{◌≡◌, ℕ, suc, ◌+◌, ◌<◌, ◌≤◌, max, Bool, true, false, cond, leb, ◌⊎◌, List, [], ◌∷◌, length, take, map, filter, fold, count_by, sym, refl, ap, ◌∙◌, subst, inl, inr, ⊎_elim, arith}
+use Rattle.std.proofs.Common.{◌≡◌, ℕ, suc, ◌+◌, ◌<◌, ◌≤◌, max, Bool, true, false, cond, leb, ◌⊎◌, List, [], ◌∷◌, length, take, map, filter, fold, count_by, refl, ap, ◌∙◌, subst, inl, inr, ⊎_elim, arith}
 use Rattle.std.specs.List.{reduce}
 use Rattle.std.specs.Option.{unwrap_or}
 use Rattle.std.proofs.lemmas.List.{length-take-le}
@@ -7,7 +7,7 @@ use Rattle.std.proofs.lemmas.List.Sums.{sum_by-cons}
 use Rattle.std.proofs.lemmas.Bool.{cases_lt, cond_both, leb-true, leb-false}
 use Rattle.std.proofs.lemmas.Bool.Decides.{nat_tests}
 use Rattle.schedule.specs.Group.{majority}
-use Rattle.promise_words.specs.Runs.{all_in, RunTo, unbroken}
+use Rattle.promise_words.specs.Runs.{all_in, unbroken}
 use Rattle.promise_words.specs.Stability.{holders, StableAt, greatest_run, stable_of}
 use Rattle.promise_words.specs.declared.timestamps.Timestamps.{Timestamps}
 use Rattle.promise_words.proofs.Runs.{all_in_run, run_of}

@@ -1,8 +1,7 @@
 -- What is in a set after each change of it.
-use Rattle.std.proofs.Common.{◌≡◌, ℕ, zero, suc, ◌+◌, ◌-◌, ◌*◌, ◌/◌, ◌%◌, ◌^◌, ◌<◌, ◌≤◌, min, max, Bool, true, false, ◌&&◌, ◌||◌, eqb, ltb, leb, List, [], ◌∷◌, length, get_or, take, set, sym, refl, ap, ◌∙◌, ap₂, ⊎_elim, arith}
+use Rattle.std.proofs.Common.{◌≡◌, ℕ, zero, suc, ◌+◌, ◌-◌, ◌/◌, ◌%◌, ◌^◌, ◌<◌, ◌≤◌, min, max, Bool, true, false, ◌&&◌, ◌||◌, eqb, ltb, leb, List, [], ◌∷◌, length, get_or, sym, refl, ap, ◌∙◌, ap₂, ⊎_elim, arith}
 use lib.Bits.{bit_or}
 use Rattle.std.proofs.Math.Bool.{or-false, and-or_distrib_left}
-use Rattle.std.proofs.lemmas.Nat.{one_shl}
 use Rattle.std.proofs.lemmas.List.{get_or-set_same, get_or-set_other}
 use Rattle.std.proofs.lemmas.Grind.{same_number_lists}
 use Rattle.std.proofs.lemmas.Bool.{cases_eq, cases_Bool, cond-true, cond-false, ne_eqb}
@@ -10,10 +9,6 @@ use Rattle.std.proofs.lemmas.Bool.Decides.{nat_tests}
 use Rattle.schedule.specs.Group.{timestamp_fits}
 use Rattle.promise_words.specs.Timestamps.{bit_at, has, among, with_bit, with_one, joined}
 use Rattle.promise_words.proofs.Bits.{or_bit, pow_bit}
-
-
-
-
 
 bit_with : (ws : List ℕ) (p q : ℕ) → p / 64 < length ws → eqb (bit_at (with_bit ws p) q) 1 ≡ (eqb (bit_at ws q) 1 || eqb q p)
 bit_with ws p q h =
@@ -41,14 +36,6 @@ one_has ws t u l =
     ap (λ (vs : List ℕ). has vs u) (cond-true (timestamp_fits t) (with_bit ws (t - 1)) ws e) ∙ ap (λ (b : Bool). timestamp_fits u && b) b ∙ grind (arith, nat_tests))
     (λ (e : timestamp_fits t ≡ false). ap (λ (vs : List ℕ). has vs u) (cond-false (timestamp_fits t) (with_bit ws (t - 1)) ws e) ∙ grind (arith, nat_tests))
     (cases_Bool (timestamp_fits t))
-
--- what the code writes
-pub written : (ws : List ℕ) (t : ℕ) → 1 ≤ t → t ≤ 1568 → set ws ((t - 1) / 64) (bit_or (get_or ws ((t - 1) / 64) 0) (1 * 2 ^ ((t - 1) % 64) % 2 ^ 64)) ≡ with_one ws t
-written ws t l h =
-    let i : ℕ = (t - 1) / 64 in
-    let fits : timestamp_fits t ≡ true = grind (arith, nat_tests) in
-    ap (λ (x : ℕ). set ws i (bit_or (get_or ws i 0) x)) (one_shl ((t - 1) % 64) 64 (omega arith))
-    ∙ sym (cond-true (timestamp_fits t) (with_bit ws (t - 1)) ws fits)
 
 -- from first up to the one before t
 abbrev pub before : ℕ → ℕ → ℕ → Bool

@@ -1,5 +1,5 @@
 -- Sets of timestamps as words of 64 bits: bit k of word w, both from 0, is timestamp 64w + k + 1.
-use Rattle.std.specs.Prelude.{ℕ, zero, suc, ◌+◌, ◌-◌, ◌/◌, ◌%◌, ◌^◌, min, max, Bool, cond, ◌&&◌, List, [], ◌∷◌, replicate, ◌==◌, bit_or, nat_le, slice_index, slice_set}
+use Rattle.std.specs.Prelude.{ℕ, zero, suc, ◌+◌, ◌-◌, ◌/◌, ◌%◌, ◌^◌, min, max, Bool, cond, ◌&&◌, List, [], ◌∷◌, replicate, ◌==◌, bit_or, nat_le, slice_index, slice_set, Some, None, Option}
 use Rattle.schedule.specs.Group.{timestamp_fits, last_timestamp}
 use Rattle.line_format.specs.Limits.{words}
 
@@ -16,6 +16,10 @@ among first last t = timestamp_fits t && nat_le first t && nat_le t last
 
 unfoldable pub no_words : List ℕ
 no_words = replicate words 0
+
+-- the word and the bit of a timestamp
+abbrev pub place : ℕ → Option (ℕ × ℕ)
+place t = cond (timestamp_fits t) (Some ((t - 1) / 64, (t - 1) % 64)) None
 
 abbrev pub with_bit : List ℕ → ℕ → List ℕ
 with_bit ws p = slice_set ws (p / 64) (bit_or (slice_index ws (p / 64)) (2 ^ (p % 64)))

@@ -56,7 +56,10 @@ mod tests {
     #[test]
     fn a_timestamp_past_the_last_is_refused(rt: HostRuntime) {
         let mut clock = Clock::new();
-        assert_eq!(rt; clock.propose(1569).map_err(|fault| fault.number()), Err(19));
+        assert_eq!(rt;
+            clock.propose(1569).map_err(|fault| fault.number()),
+            Err(19)
+        );
         assert_eq!(rt; clock.time, 0);
     }
 }

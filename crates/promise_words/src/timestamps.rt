@@ -1,7 +1,7 @@
 //! Sets of timestamps.
 
 ghost use Rattle.std.specs.Prelude.{◌≡◌, ℕ, ◌||◌};
-ghost use Rattle.promise_words.specs.Timestamps.{has, among, no_words, with_one, with_range, joined};
+ghost use Rattle.promise_words.specs.Timestamps.{place, has, among, no_words, with_one, with_range, joined};
 ghost use Rattle.promise_words.specs.Runs.{RunTo, unbroken};
 
 use line_format::message::WORDS;
@@ -13,6 +13,15 @@ use std::array;
 #[derive(Clone, Copy, PartialEq, Eq, Debug)]
 pub struct Timestamps {
     pub words: [u64; WORDS],
+}
+
+/// The word and the bit of a timestamp; none for a number that is no timestamp.
+fn place(t: u32) -> Option<(usize, u32)>
+    ensures { result ≡ place t }
+{
+    (1..=LAST_TIMESTAMP)
+        .contains(&t)
+        .then(|| ((t - 1) as usize / 64, (t - 1) % 64))
 }
 
 impl Timestamps {
@@ -28,12 +37,7 @@ impl Timestamps {
     pub fn contains(&self, t: u32) -> bool
         ensures { result ≡ has self.now.words t }
     {
-        if !(1..=LAST_TIMESTAMP).contains(&t) {
-            return false;
-        }
-        let place = t - 1;
-        let word = self.words[(place / 64) as usize];
-        (word >> (place % 64)) % 2 == 1
+        place(t).is_some_and(|(word, bit)| (self.words[word] >> bit) % 2 == 1)
     }
 
     /// Puts t in; a number that is no timestamp is left out.
@@ -41,11 +45,9 @@ impl Timestamps {
         ensures value { self.new.words ≡ with_one self.old.words t }
         ensures members { (u : ℕ) → has self.new.words u ≡ (has self.old.words u || among t t u) }
     {
-        if !(1..=LAST_TIMESTAMP).contains(&t) {
-            return;
+        if let Some((word, bit)) = place(t) {
+            self.words[word] |= 1 << bit;
         }
-        let place = t - 1;
-        self.words[(place / 64) as usize] |= 1 << (place % 64);
     }
 
     /// Puts first to last in, as far as they are timestamps.

@@ -35,10 +35,7 @@ impl Rows {
     pub fn told(&self, detached: &Timestamps) -> Promises
         ensures { result ≡ told detached.now.words self.now.rows }
     {
-        let mut pairs = [Pair {
-            id: 0,
-            timestamp: 0,
-        }; PAIRS];
+        let mut pairs = [Pair::default(); PAIRS];
         let count = put_promises(&self.rows, &mut pairs);
         Promises {
             detached: detached.words,

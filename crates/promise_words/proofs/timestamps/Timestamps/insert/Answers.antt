@@ -1,11 +1,12 @@
-use Rattle.std.proofs.Common.{ℕ, List, ap, ◌∙◌, arith}
-use Rattle.promise_words.specs.Timestamps.{has}
-use Rattle.promise_words.proofs.Members.{one_has, written}
+use Rattle.std.proofs.Common.{◌≡◌, ◌*◌, ◌%◌, ◌^◌, List, ℕ, set, get_or, ap, ◌∙◌, arith}
+use lib.Bits.{bit_or}
+use Rattle.std.proofs.lemmas.Grind.{common_steps}
+use Rattle.promise_words.specs.Timestamps.{has, with_one}
+use Rattle.promise_words.proofs.Members.{one_has}
 use Rattle.promise_words.proofs.timestamps.Timestamps.insert.Goals as goal
 
-pub returns : goal.returns
-returns c =
+pub returns-in-Some-clause-members : goal.returns-in-Some-clause-members
+returns-in-Some-clause-members c u =
     let ws = c.args.self.now.words in
-    let t = c.args.t in
-    let e = written ws t (grind arith) (grind arith) in
-    record { value = e; members = λ u. ap (λ (vs : List ℕ). has vs u) e ∙ one_has ws t u (omega arith) }
+    let e : set ws c.in-Some.word (bit_or (get_or ws c.in-Some.word 0) (1 * 2 ^ c.in-Some.bit % 2 ^ 64)) ≡ with_one ws c.args.t = grind (arith, common_steps) in
+    ap (λ (vs : List ℕ). has vs u) e ∙ one_has ws c.args.t u (omega arith)
