@@ -36,13 +36,6 @@ pub fn set_size(set: u64) -> u32
     set.count_ones()
 }
 
-// Whether the first change, by its timestamp and then its number, comes before the second.
-fn is_lower(ts: u64, change: u64, second_ts: u64, second: u64) -> bool
-    ensures { result ≡ lower (entry ts change) (entry second_ts second) }
-{
-    ts < second_ts || (ts == second_ts && change < second)
-}
-
 // Whether the first change comes before the second.
 // In this order, and in any other that puts a lower timestamp first, controllers carry out lists that are beginnings of one another.
 pub fn comes_before(ts: u64, change: u64, second_ts: u64, second: u64) -> bool
@@ -50,7 +43,7 @@ pub fn comes_before(ts: u64, change: u64, second_ts: u64, second: u64) -> bool
     ensures lawful { Lawful lower }
     ensures law { SameBeginnings }
 {
-    is_lower(ts, change, second_ts, second)
+    (ts, change) < (second_ts, second)
 }
 
 // The timestamp that small runs to which the laws apply commit: on the fast path, on the slow path, and by a take over

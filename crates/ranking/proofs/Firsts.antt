@@ -2,8 +2,9 @@
 use Rattle.std.proofs.Common.{◌≡◌, ℕ, zero, suc, ◌+◌, ◌<◌, ◌≤◌, Bool, true, false, cond, ◌&&◌, List, [], ◌∷◌, length, Some, None, Option, sym, refl, ap, ◌∙◌, subst, ⊎_elim, arith}
 use Rattle.std.specs.List.{slice_get}
 use Rattle.std.proofs.lemmas.Bool.{both_ways, cases_Bool, and_from, and_left, and_right, not_from_false, not_from_true, cond-true, cond-false}
+use Rattle.std.proofs.lemmas.Option.{none-some, slice_get_within}
 use Rattle.ranking.specs.Ranking.{unbeaten, one_on, first_in_rank, IsFirst, FirstAmong, entry_at, AllIn, NoTies, AnyOrder, leads}
-use Rattle.ranking.proofs.Places.{never, nth_within, nth_some}
+use Rattle.ranking.proofs.Places.{nth_some}
 use Rattle.ranking.proofs.Steps.{more}
 
 module _ {X : Type 0} (eligible : X → Bool) (before : X → X → Bool) where
@@ -15,7 +16,7 @@ module _ {X : Type 0} (eligible : X → Bool) (before : X → X → Bool) where
       (unbeaten_from x ys (λ k z l. h (suc k) z (omega arith)))
 
   beaten_from : (x z : X) (xs : List X) (k : ℕ) → slice_get xs k ≡ Some z → eligible z ≡ true → before z x ≡ true → unbeaten eligible before x xs ≡ false
-  beaten_from x z [] k e c b = absurd (never z e)
+  beaten_from x z [] k e c b = absurd (none-some z e)
   beaten_from x z (y ∷ ys) zero e c b =
       let same : y ≡ z = cc in
       and_left _ _ (not_from_true (eligible y && before y x) (and_from _ _ (ap eligible same ∙ c) (ap (λ w. before w x) same ∙ b)))
@@ -71,7 +72,7 @@ module _ {X : Type 0} (eligible : X → Bool) {before : X → X → Bool} (asymm
   not_none : (xs ys : List X) (i : ℕ) → AllIn xs ys → IsFirst eligible before xs (length xs) i → FirstAmong eligible before ys (length ys) None → ⊥
   not_none xs ys i to h none =
       let a = to i h.entry h.stands in
-      both_ways (eligible h.entry) (none a.0 h.entry (nth_within ys a.0 h.entry a.1) a.1) h.counts
+      both_ways (eligible h.entry) (none a.0 h.entry (slice_get_within ys a.0 h.entry a.1) a.1) h.counts
 
   same_entry : (xs ys : List X) (p q : Option ℕ) → AllIn xs ys → AllIn ys xs → NoTies eligible before xs → FirstAmong eligible before xs (length xs) p → FirstAmong eligible before ys (length ys) q → entry_at ys q ≡ entry_at xs p
   same_entry xs ys None None to from apart h g = refl
@@ -82,7 +83,7 @@ module _ {X : Type 0} (eligible : X → Bool) {before : X → X → Bool} (asymm
       let b = from j g.entry g.stands in
       let
       same : h.entry ≡ g.entry
-      = apart i b.0 h.entry g.entry h.stands b.1 h.counts g.counts (g.unbeaten a.0 h.entry (nth_within ys a.0 h.entry a.1) a.1 h.counts) (h.unbeaten b.0 g.entry (nth_within xs b.0 g.entry b.1) b.1 g.counts) in
+      = apart i b.0 h.entry g.entry h.stands b.1 h.counts g.counts (g.unbeaten a.0 h.entry (slice_get_within ys a.0 h.entry a.1) a.1 h.counts) (h.unbeaten b.0 g.entry (slice_get_within xs b.0 g.entry b.1) b.1 g.counts) in
       g.stands ∙ ap Some (sym same) ∙ sym h.stands
 
   pub any_order : (xs : List X) (p : Option ℕ) → FirstAmong eligible before xs (length xs) p → AnyOrder eligible before xs p

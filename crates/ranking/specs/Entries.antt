@@ -1,10 +1,10 @@
 -- Entries that may be missing.
 use Rattle.std.specs.Prelude.{Bool, true, false, Some, None, Option}
+use Rattle.std.specs.Option.{option_map_or}
 
 -- a missing entry takes no part
 abbrev pub some_eligible : {X : Type 0} → (X → Bool) → Option X → Bool
-some_eligible eligible None = false
-some_eligible eligible (Some x) = eligible x
+some_eligible eligible x = option_map_or eligible x false
 
 -- a missing entry stands after every other
 abbrev pub some_before : {X : Type 0} → (X → X → Bool) → Option X → Option X → Bool

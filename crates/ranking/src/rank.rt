@@ -70,6 +70,7 @@ pub fn first_in_rank<T: Ranked>(entries: &[T]) -> Option<usize>
     ensures order { AnyOrder T.Ranked.eligible T.Ranked.before entries.now result }
 {
     let mut first = None;
+    // kept: as filter and reduce it is as long, and its proof does not close
     for (i, entry) in entries.iter().enumerate() {
         if entry.is_eligible() && leads(entries, first, entry) {
             first = Some(i);

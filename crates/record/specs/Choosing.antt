@@ -22,13 +22,13 @@ accepted_entry j = option_map (λ x. record { ballot = record { 0 = x.accepted }
 abbrev pub accepted_entries : List (Option Recovery) → List (Option Accepted)
 accepted_entries rs = map (λ i. accepted_entry (i + 1) (slice_index_or rs i None)) (range_with_len 0 seats)
 
--- j is in the fast set, and is the home or was in phase recover-r
-abbrev pub late : ℕ → ℕ → ℕ → Recovery → Bool
-late h members j x = member members j && (j == h || phase_number x.phase == 3)
+-- j replied and is in the fast set, and is the home or was in phase recover-r
+abbrev pub late : ℕ → ℕ → ℕ → Option Recovery → Bool
+late h members j x = option_map_or (λ y. member members j && (j == h || phase_number y.phase == 3)) x false
 
 -- the home replied and is in the fast set, or a member of it replied in phase recover-r
 abbrev pub late_any : ℕ → ℕ → List (Option Recovery) → Bool
-late_any h members rs = list_any (λ p. option_map_or (late h members p.0) p.1 false) (numbered rs)
+late_any h members rs = list_any (λ p. late h members p.0 p.1) (numbered rs)
 
 -- whose timestamp counts: everyone's, or that of the members of a set
 abbrev pub counted : Option ControllerSet → ℕ → Bool

@@ -26,35 +26,28 @@ blank =
 
 -- the phase
 abbrev pub in_phase : Phase → Row → Row
-in_phase p w =
-    record { phase = p; change = w.change; set = w.set; timestamp = w.timestamp; ballot = w.ballot; accepted = w.accepted; promise = w.promise; proposals = w.proposals; acks = w.acks; recoveries = w.recoveries; place = w.place; outcome = w.outcome }
+in_phase p w = record w { phase = p }
 
 -- the change and its fast set
 abbrev pub with_change : Change → ControllerSet → Row → Row
-with_change c s w =
-    record { phase = w.phase; change = c; set = s; timestamp = w.timestamp; ballot = w.ballot; accepted = w.accepted; promise = w.promise; proposals = w.proposals; acks = w.acks; recoveries = w.recoveries; place = w.place; outcome = w.outcome }
+with_change c s w = record w { change = c; set = s }
 
 -- the timestamp
 abbrev pub at_timestamp : ℕ → Row → Row
-at_timestamp t w =
-    record { phase = w.phase; change = w.change; set = w.set; timestamp = t; ballot = w.ballot; accepted = w.accepted; promise = w.promise; proposals = w.proposals; acks = w.acks; recoveries = w.recoveries; place = w.place; outcome = w.outcome }
+at_timestamp t w = record w { timestamp = t }
 
 -- the ballot, and the one accepted
 abbrev pub at_ballots : ℕ → ℕ → Row → Row
-at_ballots b a w =
-    record { phase = w.phase; change = w.change; set = w.set; timestamp = w.timestamp; ballot = b; accepted = a; promise = w.promise; proposals = w.proposals; acks = w.acks; recoveries = w.recoveries; place = w.place; outcome = w.outcome }
+at_ballots b a w = record w { ballot = b; accepted = a }
 
 -- the own promise
 abbrev pub with_promise : ℕ → Row → Row
-with_promise t w =
-    record { phase = w.phase; change = w.change; set = w.set; timestamp = w.timestamp; ballot = w.ballot; accepted = w.accepted; promise = t; proposals = w.proposals; acks = w.acks; recoveries = w.recoveries; place = w.place; outcome = w.outcome }
+with_promise t w = record w { promise = t }
 
 -- the replies, by kind
 abbrev pub with_replies : Replies ℕ → Acks → Replies Recovery → Row → Row
-with_replies p a h w =
-    record { phase = w.phase; change = w.change; set = w.set; timestamp = w.timestamp; ballot = w.ballot; accepted = w.accepted; promise = w.promise; proposals = p; acks = a; recoveries = h; place = w.place; outcome = w.outcome }
+with_replies p a h w = record w { proposals = p; acks = a; recoveries = h }
 
 -- carried out at a place, with an outcome
 abbrev pub carried_out : ℕ → ℕ × ℕ → Phase → Row → Row
-carried_out n o p w =
-    record { phase = p; change = w.change; set = w.set; timestamp = w.timestamp; ballot = w.ballot; accepted = w.accepted; promise = w.promise; proposals = w.proposals; acks = w.acks; recoveries = w.recoveries; place = n; outcome = o }
+carried_out n o p w = record w { phase = p; place = n; outcome = o }

@@ -7,6 +7,7 @@ ghost use Rattle.record.specs.Replies.{with_member, newcomer};
 use crate::replies::seat;
 use schedule::ControllerSet;
 
+// kept: a set and not `Replies<()>`, since an acceptance says nothing but whose it is, and a set counts its members
 /// The controllers whose acceptance came.
 #[derive(Clone, Copy, PartialEq, Eq, Debug)]
 pub struct Acks {

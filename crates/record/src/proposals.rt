@@ -4,7 +4,6 @@ ghost use Rattle.std.specs.Prelude.{◌≡◌};
 ghost use Rattle.record.specs.Replies.{with_timestamp, awaited, all_replied, greatest, givers, decision};
 
 pub use crate::replies::SEATS;
-
 use crate::replies::{NUMBERS, Replies};
 use schedule::{ControllerSet, Figures};
 

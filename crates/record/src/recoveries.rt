@@ -21,13 +21,11 @@ pub struct Recovery {
 /// What each controller replied.
 pub type Recoveries = Replies<Recovery>;
 
-impl Recovery {
-    /// Whether this, the reply of controller j, lifts the limit to the fast set: j is in it, and is the home or promised in a take-over.
-    fn is_late(&self, j: u32, home: u32, set: &ControllerSet) -> bool
-        ensures { result ≡ late home set.now.bits j self.now }
-    {
-        set.contains(j) && (j == home || self.phase == Phase::RecoverR)
-    }
+/// Whether a reply of controller j lifts the limit to the fast set: j is in it, and is the home or promised in a take-over.
+fn is_late(reply: Option<Recovery>, j: u32, home: u32, set: &ControllerSet) -> bool
+    ensures { result ≡ late home set.now.bits j reply }
+{
+    reply.is_some_and(|told| set.contains(j) && (j == home || told.phase == Phase::RecoverR))
 }
 
 /// The timestamp of a reply of controller j, if it counts: every one's does, or only those of the members of a set.
@@ -63,7 +61,7 @@ impl Replies<Recovery> {
     {
         NUMBERS
             .zip(&self.replies)
-            .any(|(j, reply)| reply.is_some_and(|reply| reply.is_late(j, home, set)))
+            .any(|(j, reply)| is_late(*reply, j, home, set))
     }
 
     /// The greatest timestamp of those that replied and count.

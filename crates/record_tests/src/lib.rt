@@ -14,38 +14,27 @@ mod tests {
     // Replies to a proposal, of controllers 1, 2, ..
     fn proposed(timestamps: &[u32]) -> Proposals {
         let mut proposals = Proposals::none();
-        let mut j = 1;
-        for t in timestamps {
-            proposals.note(j, *t);
-            if j < 7 {
-                j += 1;
-            }
+        for (j, t) in (1..8).zip(timestamps) {
+            proposals.note_timestamp(j, *t);
         }
         proposals
     }
 
-    // What replies to a proposal decide: whether at once, and the timestamp.
-    fn decided(timestamps: &[u32], figures: &Figures, set: &ControllerSet) -> Option<(bool, u32)> {
-        match proposed(timestamps).decision(figures, set) {
-            Some(Decision::Fast { timestamp }) => Some((true, timestamp)),
-            Some(Decision::Slow { timestamp }) => Some((false, timestamp)),
-            None => None,
-        }
+    // What replies to a proposal decide.
+    fn decided(timestamps: &[u32], figures: &Figures, set: &ControllerSet) -> Option<Decision> {
+        proposed(timestamps).decision(figures, set)
     }
 
     // Replies to a take-over: controller, timestamp, phase and accepted ballot.
     fn told(replies: &[(u32, u32, Phase, u32)]) -> Recoveries {
         let mut recoveries = Recoveries::none();
-        for reply in replies {
-            recoveries.note(
-                reply.0,
-                Recovery {
-                    given: true,
-                    timestamp: reply.1,
-                    phase: reply.2,
-                    accepted: reply.3,
-                },
-            );
+        for &(controller, timestamp, phase, accepted) in replies {
+            let reply = Recovery {
+                timestamp,
+                phase,
+                accepted,
+            };
+            recoveries.note(controller, Some(reply));
         }
         recoveries
     }
@@ -55,17 +44,17 @@ mod tests {
         let five = Figures::new(5, 2)?;
         assert_eq!(rt;
             decided(&[6, 7, 11, 11], &five, &ONE_TO_FOUR),
-            Some((true, 11))
+            Some(Decision::Fast { timestamp: 11 })
         );
         assert_eq!(rt;
             decided(&[6, 7, 11, 6], &five, &ONE_TO_FOUR),
-            Some((false, 11))
+            Some(Decision::Slow { timestamp: 11 })
         );
         assert_eq!(rt; decided(&[6, 7, 11], &five, &ONE_TO_FOUR), None);
         let tolerant_of_one = Figures::new(5, 1)?;
         assert_eq!(rt;
             decided(&[6, 7, 11], &tolerant_of_one, &ONE_TO_THREE),
-            Some((true, 11))
+            Some(Decision::Fast { timestamp: 11 })
         );
         Ok(())
     }

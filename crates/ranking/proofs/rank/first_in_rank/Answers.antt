@@ -1,14 +1,10 @@
 use Rattle.std.proofs.Common.{◌≡◌, ℕ, ◌+◌, length, Option, sym, refl, ◌∙◌, subst, inl, inr, arith}
 use Rattle.std.proofs.lemmas.Option.{slice_get_read}
 use Rattle.ranking.specs.Ranking.{FirstAmong, leads}
-use Rattle.ranking.proofs.Places.{place_within}
 use Rattle.ranking.proofs.Firsts.{only_first, any_order}
 use Rattle.ranking.proofs.Steps.{takes, keeps}
 use Rattle.ranking.proofs.rank.first_in_rank.Goals as goal
 use Rattle.ranking.proofs.rank.first_in_rank.Goals.{then-is_eligible+then-leads, else-is_eligible, else-is_eligible-via-then-is_eligible+else-leads, else-is_eligible-via-else-is_eligible}
-
-pub leads-requires : goal.leads-requires
-leads-requires g c = place_within g.T.Ranked.eligible g.T.Ranked.before c.args.entries.now c.loop-i.i c.loop-i.first (omega arith) c.loop-i.invariant
 
 pub loop-i-preserved : goal.loop-i-preserved
 loop-i-preserved g c =
