@@ -35,13 +35,13 @@ fn take_line(rt: &HostRuntime, day: &mut Option<Day>, number: u64, line: &str) -
         return Ok(());
     }
     match day {
-        None => match Book::named(line) {
-            Some(book) => {
+        None => match line.parse::<Book>() {
+            Ok(book) => {
                 let tally = Tally::new();
                 *day = Some(Day { book, tally });
                 Ok(())
             }
-            None => refuse(rt, number, Misread::NoService),
+            Err(why) => refuse(rt, number, why),
         },
         Some(day) => match asked(line) {
             Ok(request) => reply(rt, number, day.answer(&request)),

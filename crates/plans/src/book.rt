@@ -1,12 +1,15 @@
 //! The services that a plan can be tried on.
 
-ghost use Rattle.std.specs.Prelude.{◌≡◌};
-ghost use Rattle.std.specs.Option.{option_map};
+ghost use Rattle.std.specs.Prelude.{◌≡◌, ok_or};
+ghost use Rattle.std.specs.Result.{result_map_both};
 ghost use Rattle.plans.specs.Books.{BookState, book_meaning, book_next, book_outcome, book_reads, book_named, book_say, book_inner_say, book_booked, book_holds, book_used};
+ghost use Rattle.plans.specs.declared.request.Misread.TheVariants.{NoService};
 
+use crate::request::Misread;
 use schedule::Change;
 use schedule::change::SLOTS;
 use services::{BreakLedger, FinalSay, RunningOrder, Service};
+use std::str::FromStr;
 
 /// One of the services, by what it is made of.
 // kept: each match has an arm for each type of service, since a function may not hand out a `dyn`, and a macro for two matches is no shorter.
@@ -51,24 +54,29 @@ impl Service for Book {
     }
 }
 
-impl Book {
-    /// The service of a name, in its first state.
-    pub fn named(name: &str) -> Option<Book>
-        ensures { option_map book_meaning result ≡ book_named name.now }
-    {
+/// The service of a name, in its first state.
+impl FromStr for Book {
+    type Err = Misread;
+
+    ghost from_str_gives = { λ name answer. result_map_both book_meaning (λ why. why) answer ≡ ok_or (book_named name) NoService };
+
+    fn from_str(name: &str) -> Result<Book, Misread> {
         match name {
-            "running-order" => Some(Book::Order(RunningOrder::new())),
-            "break-ledger" => Some(Book::Ledger(BreakLedger::new())),
-            "final-say running-order" => Some(Book::SayOrder(FinalSay::new(RunningOrder::new()))),
-            "final-say break-ledger" => Some(Book::SayLedger(FinalSay::new(BreakLedger::new()))),
+            "running-order" => Ok(Book::Order(RunningOrder::new())),
+            "break-ledger" => Ok(Book::Ledger(BreakLedger::new())),
+            "final-say running-order" => Ok(Book::SayOrder(FinalSay::new(RunningOrder::new()))),
+            "final-say break-ledger" => Ok(Book::SayLedger(FinalSay::new(BreakLedger::new()))),
             "final-say final-say running-order" => {
-                Some(Book::SaySayOrder(FinalSay::new(FinalSay::new(RunningOrder::new()))))
+                Ok(Book::SaySayOrder(FinalSay::new(FinalSay::new(RunningOrder::new()))))
             }
-            _ => None,
+            _ => Err(Misread::NoService),
         }
     }
+}
 
+impl Book {
     /// Who has the say of an hour, for a service under final say: 0 nobody, else the department.
+    // kept: 0 for nobody as in an outcome, since `None` says already that no final say stands here.
     pub fn say(&self, hour: u32) -> Option<u32>
         ensures { result ≡ book_say (book_meaning self.now) hour }
     {

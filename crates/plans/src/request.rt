@@ -13,6 +13,7 @@ pub enum Request {
     /// A change, whatever its numbers are.
     Carrying(Change),
     /// What an hour and slot hold.
+    // kept: two numbers, since whoever takes them, as `Service::read`, would take a struct of both apart at once.
     Reading(u32, u32),
 }
 
@@ -61,6 +62,7 @@ pub fn asked(line: &str) -> Result<Request, Misread>
     ensures { (words : List (List ℕ)) × FirstWords 6 line.now words × (result ≡ asked_by words) }
 {
     let mut words = line.split_whitespace();
+    // kept: six calls, since with `array::from_fn` and a closure that calls `next` the goal stays open.
     asked_of([
         words.next(),
         words.next(),
@@ -83,9 +85,14 @@ fn asked_of(words: [Option<&str>; 6]) -> Result<Request, Misread>
             let (hour, slot) = place_of(hour, slot)?;
             Ok(Request::Reading(hour, slot))
         }
-        [Some(of), Some(to_do), Some(hour), Some(slot), Some(value), None] => {
-            Ok(Request::Carrying(change_of(of, to_do, hour, slot, value)?))
-        }
+        [
+            Some(of),
+            Some(to_do),
+            Some(hour),
+            Some(slot),
+            Some(value),
+            None,
+        ] => { Ok(Request::Carrying(change_of(of, to_do, hour, slot, value)?)) }
         _ => Err(Misread::OtherWords),
     }
 }

@@ -20,7 +20,9 @@ impl Tally {
     pub fn new() -> Tally
         ensures { result.counts ≡ no_counts }
     {
-        Tally { counts: [0; COUNTS] }
+        Tally {
+            counts: [0; COUNTS],
+        }
     }
 
     /// Counts a change by the first number of its outcome.

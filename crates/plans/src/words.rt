@@ -13,6 +13,7 @@ pub(crate) fn number(word: &str) -> Option<u32>
 }
 
 /// The number of a department, given by its name or as any number.
+// kept: beside the one of a kind, since one over any type would state two conversions, which is longer than either chain.
 pub(crate) fn department(word: &str) -> Option<u32>
     ensures { result ≡ department_named word.now }
 {

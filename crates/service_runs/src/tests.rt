@@ -5,14 +5,13 @@ use schedule::Change;
 use services::service::Service;
 use services::{FinalSay, RunningOrder};
 
-/// Department, kind, hour, slot, value.
-fn change(numbers: [u32; 5]) -> Change {
+fn change([department, kind, hour, slot, value]: [u32; 5]) -> Change {
     Change {
-        department: numbers[0],
-        kind: numbers[1],
-        hour: numbers[2],
-        slot: numbers[3],
-        value: numbers[4],
+        department,
+        kind,
+        hour,
+        slot,
+        value,
     }
 }
 

@@ -1,5 +1,6 @@
 -- A day's places: for each hour a row, with a number for each slot, 0 for an empty place.
-use Rattle.std.specs.Prelude.{ℕ, Bool, true, cond, ◌&&◌, List, [], ◌∷◌, replicate, sum, nat_le, slice_index, slice_index_or, slice_set}
+use Rattle.std.specs.Prelude.{ℕ, Bool, cond, ◌&&◌, List, [], replicate, sum, nat_le, slice_index, slice_index_or, slice_set}
+use Rattle.std.specs.List.{list_all}
 use Rattle.schedule.specs.Changes.{hours, slots, hour_fits, slot_fits}
 
 abbrev pub Table : Type 0
@@ -29,5 +30,4 @@ hour_seconds = 720
 
 -- whether every hour keeps to its seconds
 abbrev pub hours_within : Table → Bool
-hours_within [] = true
-hours_within (r ∷ rs) = nat_le (sum r) hour_seconds && hours_within rs
+hours_within t = list_all (λ r. nat_le (sum r) hour_seconds) t

@@ -44,8 +44,7 @@ fn judge_say(change: &Change, holder: Option<Department>) -> SayRuling
     match asks(change) {
         None => SayRuling::Refused(Answer::OutsideLimits, 0),
         Some(Kind::Claim) if holder.is_none() || holder == asking => SayRuling::Becomes(
-            asking,
-            told,
+            asking, told,
         ),
         Some(Kind::Claim) => SayRuling::Refused(Answer::OthersSay, told),
         Some(Kind::Yield) if holder == asking => SayRuling::Becomes(None, told),

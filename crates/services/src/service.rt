@@ -25,6 +25,7 @@ pub trait Service {
         ensures answers { result ≡ outcome (meaning self.old) change.now };
 
     /// Reads an hour and slot.
+    // kept: two numbers, since they come as two words or two fields, and a struct of both would be taken apart at once.
     fn read(&self, hour: u32, slot: u32) -> u32
         ensures { result ≡ reads (meaning self.now) hour slot };
 }

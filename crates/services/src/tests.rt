@@ -4,14 +4,13 @@ use crate::*;
 use schedule::{Change, Department};
 use std::process::Abort;
 
-/// Department, kind, hour, slot, value.
-fn change(numbers: [u32; 5]) -> Change {
+fn change([department, kind, hour, slot, value]: [u32; 5]) -> Change {
     Change {
-        department: numbers[0],
-        kind: numbers[1],
-        hour: numbers[2],
-        slot: numbers[3],
-        value: numbers[4],
+        department,
+        kind,
+        hour,
+        slot,
+        value,
     }
 }
 

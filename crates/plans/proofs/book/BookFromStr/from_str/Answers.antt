@@ -1,6 +1,6 @@
 use Rattle.std.proofs.Common.{codes}
 use Rattle.plans.proofs.Texts.{differs}
-use Rattle.plans.proofs.book.Book.named.Goals as goal
+use Rattle.plans.proofs.book.BookFromStr.from_str.Goals as goal
 
 pub returns-in_default : goal.returns-in_default
 returns-in_default c =
