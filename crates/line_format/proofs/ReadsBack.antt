@@ -7,9 +7,8 @@ use Rattle.schedule.specs.Group.{id_fits, timestamp_fits, ballot_fits, changes_e
 use Rattle.line_format.specs.Encoding.{ints, encode}
 use Rattle.line_format.specs.Fields.{hyper_bytes, pair_bytes, fields, int_at, hyper_at, pair_at, fields_at}
 use Rattle.line_format.specs.Laws.{Typed, ReadsBack, NoLonger, longest}
-use Rattle.line_format.specs.Limits.{checks, first_unfit, within, words, most_pairs, sender_fits, set_fits, phase_fits, accepted_fits, pairs_rise, pairs_fit, unused}
+use Rattle.line_format.specs.Limits.{Check, checks, first_unfit, within, words, most_pairs, sender_fits, set_fits, phase_fits, accepted_fits, pairs_rise, pairs_fit, unused}
 use Rattle.line_format.specs.Reading.{no_pair, no_pairs, promises_shaped, shape, limited}
-use Rattle.line_format.specs.declared.limits.Check.{Check}
 use Rattle.line_format.specs.declared.message.Message.{Message}
 use Rattle.line_format.specs.declared.message.Message.TheVariants.{MPayload, MPropose, MProposeAck, MCommit, MConsensus, MConsensusAck, MRec, MRecAck, MPromises}
 use Rattle.line_format.specs.declared.message.Pair.{Pair}

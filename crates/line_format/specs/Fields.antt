@@ -1,5 +1,6 @@
 -- The fields of a message as bytes, most significant byte first.
 use Rattle.std.specs.Prelude.{ℕ, zero, suc, ◌+◌, ◌*◌, ◌/◌, ◌%◌, List, [], ◌∷◌, ◌++◌, slice_index}
+use Rattle.std.specs.List.{flat_map}
 use Rattle.line_format.specs.declared.message.Pair.{Pair}
 
 -- an unsigned int: four bytes
@@ -17,8 +18,7 @@ pair_bytes p = int_bytes p.id ++ int_bytes p.timestamp
 
 -- fields one after the other
 abbrev pub fields : {A : Type 0} → (A → List ℕ) → List A → List ℕ
-fields bytes [] = []
-fields bytes (x ∷ xs) = bytes x ++ fields bytes xs
+fields bytes xs = flat_map bytes xs
 
 -- the unsigned int at a place
 abbrev pub int_at : List ℕ → ℕ → ℕ

@@ -1,10 +1,10 @@
 -- The limits of every field, in a group of r controllers of which f may be silent.
 use Rattle.std.specs.Prelude.{ℕ, ◌-◌, ◌*◌, ◌^◌, Bool, true, cond, not, ◌&&◌, List, [], ◌∷◌, ◌++◌, take, drop, is_some, Some, None, Option, ◌==◌, nat_le, nat_lt, slice_index}
+use Rattle.std.specs.List.{list_all}
 use Rattle.schedule.specs.Changes.{department_fits, kind_fits, hour_fits, slot_fits, value_fits}
 use Rattle.schedule.specs.Group.{id_fits, timestamp_fits, ballot_fits, last_timestamp, last_ballot, home}
 use Rattle.schedule.specs.Sets.{fast_set}
 use Rattle.schedule.specs.declared.change.Change.{Change}
-use Rattle.line_format.specs.declared.limits.Check.{Check}
 use Rattle.line_format.specs.declared.limits.Field.{Field}
 use Rattle.line_format.specs.declared.limits.Field.TheVariants.{Sender, Id, Department, Kind, Hour, Slot, Value, Set, Timestamp, Ballot, Phase, Accepted, Detached, Pairs}
 use Rattle.line_format.specs.declared.message.Message.{Message}
@@ -48,14 +48,17 @@ pairs_rise r last (p ∷ ps) = pair_fits r last p && pairs_rise r p.id ps
 
 -- places that are not used hold zeros
 abbrev pub unused : List Pair → Bool
-unused [] = true
-unused (p ∷ ps) = p.id == 0 && p.timestamp == 0 && unused ps
+unused ps = list_all (λ p. p.id == 0 && p.timestamp == 0) ps
 
 abbrev pub pairs_fit : ℕ → Promises → Bool
 pairs_fit r p = nat_le p.count most_pairs && pairs_rise r 0 (take p.count p.pairs) && unused (drop p.count p.pairs)
 
 -- a field, and whether it is within its limits
-abbrev check : Field → Bool → Check
+pub record Check : Type 0 where
+  pub field : Field
+  pub fits : Bool
+
+abbrev pub check : Field → Bool → Check
 check field fits = record { field = field; fits = fits }
 
 abbrev pub sender_check : ℕ → ℕ → Check
@@ -74,35 +77,46 @@ ballot_check b = check Ballot (ballot_fits b)
 abbrev pub takeover_check : ℕ → ℕ → Check
 takeover_check r b = check Ballot (ballot_fits b && nat_lt r b)
 
-abbrev pub department_check : ℕ → Check
-department_check d = check Department (department_fits d)
+-- the change and the set of MPayload and MPropose
+abbrev pub entry_checks : ℕ → ℕ → ℕ → Change → ℕ → List Check
+entry_checks r f i c set =
+    check Department (department_fits c.department) ∷ check Kind (kind_fits c.kind) ∷ check Hour (hour_fits c.hour) ∷ check Slot (slot_fits c.slot) ∷ check Value (value_fits c.value) ∷ check Set (set_fits r f i set) ∷ []
 
-abbrev pub kind_check : ℕ → Check
-kind_check k = check Kind (kind_fits k)
+-- what MRecAck answers of a change
+abbrev pub answer_checks : ℕ → ℕ → ℕ → ℕ → List Check
+answer_checks t p a b =
+    timestamp_check t ∷ check Phase (phase_fits p) ∷ check Accepted (accepted_fits a) ∷ ballot_check b ∷ []
 
-abbrev pub phase_check : ℕ → Check
-phase_check p = check Phase (phase_fits p)
+abbrev pub promises_checks : ℕ → Promises → List Check
+promises_checks r p = check Detached (detached_fits p.detached) ∷ check Pairs (pairs_fit r p) ∷ []
 
--- what MPayload and MPropose have in common
-abbrev pub entry_checks : ℕ → ℕ → ℕ → ℕ → Change → ℕ → List Check
-entry_checks r f s i c set =
-    sender_check r s ∷ id_check r i ∷ department_check c.department ∷ kind_check c.kind ∷ check Hour (hour_fits c.hour) ∷ check Slot (slot_fits c.slot) ∷ check Value (value_fits c.value) ∷ check Set (set_fits r f i set) ∷ []
+-- who sends a message, and the change that it is about
+abbrev pub first_checks : ℕ → Message → List Check
+first_checks r (MPayload s i c set) = sender_check r s ∷ id_check r i ∷ []
+first_checks r (MPropose s i c set t) = sender_check r s ∷ id_check r i ∷ []
+first_checks r (MProposeAck s i t) = sender_check r s ∷ id_check r i ∷ []
+first_checks r (MCommit s i t) = sender_check r s ∷ id_check r i ∷ []
+first_checks r (MConsensus s i t b) = sender_check r s ∷ id_check r i ∷ []
+first_checks r (MConsensusAck s i b) = sender_check r s ∷ id_check r i ∷ []
+first_checks r (MRec s i b) = sender_check r s ∷ id_check r i ∷ []
+first_checks r (MRecAck s i t p a b) = sender_check r s ∷ id_check r i ∷ []
+first_checks r (MPromises s p) = sender_check r s ∷ []
 
-abbrev pub propose_checks : ℕ → ℕ → ℕ → ℕ → Change → ℕ → ℕ → List Check
-propose_checks r f s i c set t = entry_checks r f s i c set ++ (timestamp_check t ∷ [])
+-- the fields after those
+abbrev pub rest_checks : ℕ → ℕ → Message → List Check
+rest_checks r f (MPayload s i c set) = entry_checks r f i c set.bits
+rest_checks r f (MPropose s i c set t) = entry_checks r f i c set.bits ++ (timestamp_check t ∷ [])
+rest_checks r f (MProposeAck s i t) = timestamp_check t ∷ []
+rest_checks r f (MCommit s i t) = timestamp_check t ∷ []
+rest_checks r f (MConsensus s i t b) = timestamp_check t ∷ ballot_check b ∷ []
+rest_checks r f (MConsensusAck s i b) = ballot_check b ∷ []
+rest_checks r f (MRec s i b) = takeover_check r b ∷ []
+rest_checks r f (MRecAck s i t p a b) = answer_checks t p a b
+rest_checks r f (MPromises s p) = promises_checks r p
 
 -- the checks of each message, in the order of its bytes
 abbrev pub checks : ℕ → ℕ → Message → List Check
-checks r f (MPayload s i c set) = entry_checks r f s i c set.bits
-checks r f (MPropose s i c set t) = propose_checks r f s i c set.bits t
-checks r f (MProposeAck s i t) = sender_check r s ∷ id_check r i ∷ timestamp_check t ∷ []
-checks r f (MCommit s i t) = sender_check r s ∷ id_check r i ∷ timestamp_check t ∷ []
-checks r f (MConsensus s i t b) = sender_check r s ∷ id_check r i ∷ timestamp_check t ∷ ballot_check b ∷ []
-checks r f (MConsensusAck s i b) = sender_check r s ∷ id_check r i ∷ ballot_check b ∷ []
-checks r f (MRec s i b) = sender_check r s ∷ id_check r i ∷ takeover_check r b ∷ []
-checks r f (MRecAck s i t p a b) =
-    sender_check r s ∷ id_check r i ∷ timestamp_check t ∷ phase_check p ∷ check Accepted (accepted_fits a) ∷ ballot_check b ∷ []
-checks r f (MPromises s p) = sender_check r s ∷ check Detached (detached_fits p.detached) ∷ check Pairs (pairs_fit r p) ∷ []
+checks r f m = first_checks r m ++ rest_checks r f m
 
 -- the first field that is outside its limits
 abbrev pub first_unfit : List Check → Option Field

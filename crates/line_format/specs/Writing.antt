@@ -1,9 +1,10 @@
 -- Writing a message into a buffer.
-use Rattle.std.specs.Prelude.{◌≡◌, ℕ, ◌+◌, Bool, true, cond, List, ◌++◌, length, take, drop, Ok, Err, Result, nat_le, nat_lt}
+use Rattle.std.specs.Prelude.{◌≡◌, ℕ, ◌+◌, ◌≤◌, Bool, true, cond, List, ◌++◌, length, take, drop, Ok, Err, Result, nat_le, nat_lt}
 use Rattle.line_format.specs.Encoding.{encode}
 use Rattle.line_format.specs.Limits.{within, most_pairs}
 use Rattle.line_format.specs.declared.fault.LineFault.{LineFault}
 use Rattle.line_format.specs.declared.fault.LineFault.TheVariants.{ShortBuffer, Malformed, OutsideLimits}
+use Rattle.line_format.specs.declared.writing.Writer.{Writer}
 use Rattle.line_format.specs.declared.message.Message.{Message}
 use Rattle.line_format.specs.declared.message.Message.TheVariants.{MPayload, MPropose, MProposeAck, MCommit, MConsensus, MConsensusAck, MRec, MRecAck, MPromises}
 
@@ -26,6 +27,17 @@ count_fits (MPromises s p) = nat_le p.count most_pairs
 -- bytes at a place of a buffer, and the buffer's own before and after them
 abbrev pub laid_at : ℕ → List ℕ → List ℕ → List ℕ
 laid_at at bs buffer = take at buffer ++ (bs ++ drop (at + length bs) buffer)
+
+-- room for n bytes more
+abbrev pub HasRoom : Writer → ℕ → Type 0
+HasRoom writer n = writer.at + n ≤ length writer.buffer.now
+
+-- bytes put at a writer's place, which then lies after them
+pub record Puts (before after : Writer) (bytes : List ℕ) : Type 0 where
+  pub same_buffer : after.buffer.ghost_name ≡ before.buffer.ghost_name
+  pub same_length : length after.buffer.now ≡ length before.buffer.now
+  pub place : after.at ≡ before.at + length bytes
+  pub laid : after.buffer.now ≡ laid_at before.at bytes before.buffer.now
 
 -- bytes at the start of a buffer, and the buffer's own past them
 abbrev pub laid_over : List ℕ → List ℕ → List ℕ

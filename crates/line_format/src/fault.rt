@@ -2,6 +2,9 @@
 
 ghost use Rattle.std.specs.Prelude.{◌≡◌};
 ghost use Rattle.line_format.specs.Faults.{fault_number};
+ghost use Rattle.line_format.specs.declared.fault.LineFault.TheVariants.{OutsideLimits};
+
+use crate::limits::Field;
 
 /// Why bytes are no message, or a message cannot be written.
 #[derive(Clone, Copy, PartialEq, Eq, Debug)]
@@ -24,5 +27,13 @@ impl LineFault {
             LineFault::Malformed => 13,
             LineFault::OutsideLimits => 14,
         }
+    }
+}
+
+impl From<Field> for LineFault {
+    ghost from_gives = { λ _ fault. fault ≡ OutsideLimits };
+
+    fn from(_field: Field) -> LineFault {
+        Self::OutsideLimits
     }
 }

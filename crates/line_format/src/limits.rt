@@ -1,12 +1,15 @@
 //! The limits of every field of a message.
 
-ghost use Rattle.std.specs.Prelude.{◌≡◌};
-ghost use Rattle.line_format.specs.Limits.{sender_check, id_check, timestamp_check, ballot_check, takeover_check, department_check, kind_check, phase_check, entry_checks, propose_checks, set_fits, detached_fits, pair_fits, pairs_rise, unused, pairs_fit, first_unfit, unfit};
+ghost use Rattle.std.specs.Prelude.{◌≡◌, [], ◌∷◌};
+ghost use Rattle.std.specs.Result.{result_err};
+ghost use Rattle.schedule.specs.Changes.{department_fits, kind_fits};
+ghost use Rattle.schedule.specs.Group.{timestamp_fits};
+ghost use Rattle.line_format.specs.Limits.{check, sender_check, id_check, timestamp_check, ballot_check, takeover_check, entry_checks, answer_checks, promises_checks, first_checks, rest_checks, phase_fits, set_fits, detached_fits, pair_fits, pairs_rise, unused, pairs_fit, first_unfit, unfit};
 
 use crate::message::{Message, PAIRS, Pair, Promises, WORDS};
 use schedule::change::{HOURS, LAST_VALUE, SLOTS};
 use schedule::figures::{LAST_BALLOT, LAST_TIMESTAMP};
-use schedule::{Change, ControllerSet, Department, Figures, Kind};
+use schedule::{Change, ControllerSet, Department, Figures, Kind, Phase};
 
 /// The fields of messages, as they are named to people.
 #[derive(Clone, Copy, PartialEq, Eq, Debug)]
@@ -27,90 +30,67 @@ pub enum Field {
     Pairs,
 }
 
-/// A field, and whether it is within its limits.
-#[derive(Clone, Copy)]
-struct Check {
-    field: Field,
-    fits: bool,
+/// Refuses a field that is outside its limits.
+fn within(fits: bool, field: Field) -> Result<(), Field>
+    ensures { result_err result ≡ first_unfit (check field fits ∷ []) }
+{
+    if fits { Ok(()) } else { Err(field) }
 }
 
-fn sender_check(figures: &Figures, sender: u32) -> Check
-    ensures { result ≡ sender_check figures.now.r sender }
+fn check_sender(figures: &Figures, sender: u32) -> Result<(), Field>
+    ensures { result_err result ≡ first_unfit (sender_check figures.now.r sender ∷ []) }
 {
-    Check {
-        field: Field::Sender,
-        fits: sender >= 1 && sender <= figures.r,
-    }
+    within(sender >= 1 && sender <= figures.r, Field::Sender)
 }
 
-fn id_check(figures: &Figures, id: u32) -> Check
-    ensures { result ≡ id_check figures.now.r id }
+fn check_id(figures: &Figures, id: u32) -> Result<(), Field>
+    ensures { result_err result ≡ first_unfit (id_check figures.now.r id ∷ []) }
 {
-    Check {
-        field: Field::Id,
-        fits: figures.home(id).is_some(),
-    }
+    within(figures.home(id).is_some(), Field::Id)
 }
 
 fn timestamp_fits(timestamp: u32) -> bool
-    ensures { result ≡ (timestamp_check timestamp).fits }
+    ensures { result ≡ timestamp_fits timestamp }
 {
     timestamp >= 1 && timestamp <= LAST_TIMESTAMP
 }
 
-fn timestamp_check(timestamp: u32) -> Check
-    ensures { result ≡ timestamp_check timestamp }
+fn check_timestamp(timestamp: u32) -> Result<(), Field>
+    ensures { result_err result ≡ first_unfit (timestamp_check timestamp ∷ []) }
 {
-    Check {
-        field: Field::Timestamp,
-        fits: timestamp_fits(timestamp),
-    }
+    within(timestamp_fits(timestamp), Field::Timestamp)
 }
 
-fn ballot_check(ballot: u32) -> Check
-    ensures { result ≡ ballot_check ballot }
+fn check_ballot(ballot: u32) -> Result<(), Field>
+    ensures { result_err result ≡ first_unfit (ballot_check ballot ∷ []) }
 {
-    Check {
-        field: Field::Ballot,
-        fits: ballot >= 1 && ballot <= LAST_BALLOT,
-    }
+    within(ballot >= 1 && ballot <= LAST_BALLOT, Field::Ballot)
 }
 
 /// A take-over's ballot is above r.
-fn takeover_check(figures: &Figures, ballot: u32) -> Check
-    ensures { result ≡ takeover_check figures.now.r ballot }
+fn check_takeover(figures: &Figures, ballot: u32) -> Result<(), Field>
+    ensures { result_err result ≡ first_unfit (takeover_check figures.now.r ballot ∷ []) }
 {
-    Check {
-        field: Field::Ballot,
-        fits: ballot > figures.r && ballot <= LAST_BALLOT,
-    }
+    within(ballot > figures.r && ballot <= LAST_BALLOT, Field::Ballot)
 }
 
-fn department_check(department: u32) -> Check
-    ensures { result ≡ department_check department }
+fn department_fits(department: u32) -> bool
+    ensures { result ≡ department_fits department }
 {
-    Check {
-        field: Field::Department,
-        fits: Department::of(department).is_some(),
-    }
+    Department::try_from(department).is_ok()
 }
 
-fn kind_check(kind: u32) -> Check
-    ensures { result ≡ kind_check kind }
+fn kind_fits(kind: u32) -> bool
+    ensures { result ≡ kind_fits kind }
 {
-    Check {
-        field: Field::Kind,
-        fits: Kind::of(kind).is_some(),
-    }
+    Kind::try_from(kind).is_ok()
 }
 
-fn phase_check(phase: u32) -> Check
-    ensures { result ≡ phase_check phase }
+/// The phase of a change that is known and not committed.
+fn phase_fits(phase: u32) -> bool
+    ensures { result ≡ phase_fits phase }
 {
-    Check {
-        field: Field::Phase,
-        fits: phase >= 1 && phase <= 4,
-    }
+    Phase::try_from(phase).is_ok_and(|phase| phase.is_pending())
 }
 
 fn set_fits(figures: &Figures, id: u32, set: &ControllerSet) -> bool
@@ -139,26 +119,19 @@ fn pair_fits(figures: &Figures, last: u32, pair: &Pair) -> bool
 fn pairs_rise(figures: &Figures, pairs: &[Pair]) -> bool
     ensures { result ≡ pairs_rise figures.now.r 0 pairs.now }
 {
-    let mut last = 0;
-    for pair in pairs {
-        if !pair_fits(figures, last, pair) {
-            return false;
-        }
-        last = pair.id;
-    }
-    true
+    pairs
+        .iter()
+        .try_fold(0, |last, pair| {
+            pair_fits(figures, last, pair).then_some(pair.id)
+        })
+        .is_some()
 }
 
 /// Places that are not used hold zeros.
 fn unused(pairs: &[Pair]) -> bool
     ensures { result ≡ unused pairs.now }
 {
-    for pair in pairs {
-        if pair.id != 0 || pair.timestamp != 0 {
-            return false;
-        }
-    }
-    true
+    pairs.iter().all(|pair| *pair == Pair::default())
 }
 
 fn pairs_fit(figures: &Figures, promises: &Promises) -> bool
@@ -172,157 +145,119 @@ fn pairs_fit(figures: &Figures, promises: &Promises) -> bool
     pairs_rise(figures, used) && unused(rest)
 }
 
-/// The first field that is outside its limits.
-fn first_unfit(checks: &[Check]) -> Option<Field>
-    ensures { result ≡ first_unfit checks.now }
-{
-    for check in checks {
-        if !check.fits {
-            return Some(check.field);
-        }
-    }
-    None
-}
-
-/// What MPayload and MPropose have in common.
-fn entry_unfit(
+/// The change and the set of MPayload and MPropose.
+fn check_entry(
     figures: &Figures,
-    sender: u32,
     id: u32,
     change: &Change,
     set: &ControllerSet,
-) -> Option<Field>
-    ensures { result ≡ first_unfit (entry_checks figures.now.r figures.now.f sender id change.now set.now.bits) }
+) -> Result<(), Field>
+    ensures { result_err result ≡ first_unfit (entry_checks figures.now.r figures.now.f id change.now set.now.bits) }
 {
-    first_unfit(&[
-        sender_check(figures, sender),
-        id_check(figures, id),
-        department_check(change.department),
-        kind_check(change.kind),
-        Check {
-            field: Field::Hour,
-            fits: change.hour < HOURS,
-        },
-        Check {
-            field: Field::Slot,
-            fits: change.slot < SLOTS,
-        },
-        Check {
-            field: Field::Value,
-            fits: change.value <= LAST_VALUE,
-        },
-        Check {
-            field: Field::Set,
-            fits: set_fits(figures, id, set),
-        },
-    ])
+    within(department_fits(change.department), Field::Department)?;
+    within(kind_fits(change.kind), Field::Kind)?;
+    within(change.hour < HOURS, Field::Hour)?;
+    within(change.slot < SLOTS, Field::Slot)?;
+    within(change.value <= LAST_VALUE, Field::Value)?;
+    within(set_fits(figures, id, set), Field::Set)
 }
 
-fn propose_unfit(
-    figures: &Figures,
-    sender: u32,
-    id: u32,
-    change: &Change,
-    set: &ControllerSet,
-    timestamp: u32,
-) -> Option<Field>
-    ensures { result ≡ first_unfit (propose_checks figures.now.r figures.now.f sender id change.now set.now.bits timestamp) }
+/// What MRecAck answers of a change.
+fn check_answer(timestamp: u32, phase: u32, accepted: u32, ballot: u32) -> Result<(), Field>
+    ensures { result_err result ≡ first_unfit (answer_checks timestamp phase accepted ballot) }
 {
-    match entry_unfit(figures, sender, id, change, set) {
-        Some(field) => Some(field),
-        None => first_unfit(&[timestamp_check(timestamp)]),
-    }
+    check_timestamp(timestamp)?;
+    within(phase_fits(phase), Field::Phase)?;
+    within(accepted <= LAST_BALLOT, Field::Accepted)?;
+    check_ballot(ballot)
+}
+
+fn check_promises(figures: &Figures, promises: &Promises) -> Result<(), Field>
+    ensures { result_err result ≡ first_unfit (promises_checks figures.now.r promises.now) }
+{
+    within(detached_fits(&promises.detached), Field::Detached)?;
+    within(pairs_fit(figures, promises), Field::Pairs)
 }
 
 impl Message {
-    /// The first field that is outside its limits, in the order of the bytes.
-    pub fn unfit(&self, figures: &Figures) -> Option<Field>
-        ensures { result ≡ unfit figures.now.r figures.now.f self.now }
+    /// Who sends it, and the change that it is about.
+    fn check_first(&self, figures: &Figures) -> Result<(), Field>
+        ensures { result_err result ≡ first_unfit (first_checks figures.now.r self.now) }
+    {
+        match self {
+            Message::MPayload { sender, id, .. }
+            | Message::MPropose { sender, id, .. }
+            | Message::MProposeAck { sender, id, .. }
+            | Message::MCommit { sender, id, .. }
+            | Message::MConsensus { sender, id, .. }
+            | Message::MConsensusAck { sender, id, .. }
+            | Message::MRec { sender, id, .. }
+            | Message::MRecAck { sender, id, .. } => {
+                check_sender(figures, *sender)?;
+                check_id(figures, *id)
+            }
+            Message::MPromises { sender, .. } => check_sender(figures, *sender),
+        }
+    }
+
+    /// The fields after those.
+    fn check_rest(&self, figures: &Figures) -> Result<(), Field>
+        ensures { result_err result ≡ first_unfit (rest_checks figures.now.r figures.now.f self.now) }
     {
         match self {
             Message::MPayload {
-                sender,
                 id,
                 change,
                 set,
-            } => entry_unfit(figures, *sender, *id, change, set),
+                ..
+            } => check_entry(figures, *id, change, set),
             Message::MPropose {
-                sender,
                 id,
                 change,
                 set,
                 timestamp,
-            } => { propose_unfit(figures, *sender, *id, change, set, *timestamp) }
-            Message::MProposeAck {
-                sender,
-                id,
-                timestamp,
-            }
-            | Message::MCommit {
-                sender,
-                id,
-                timestamp,
+                ..
             } => {
-                first_unfit(&[
-                    sender_check(figures, *sender),
-                    id_check(figures, *id),
-                    timestamp_check(*timestamp),
-                ])
+                check_entry(figures, *id, change, set)?;
+                check_timestamp(*timestamp)
+            }
+            Message::MProposeAck { timestamp, .. } | Message::MCommit { timestamp, .. } => {
+                check_timestamp(*timestamp)
             }
             Message::MConsensus {
-                sender,
-                id,
                 timestamp,
                 ballot,
-            } => first_unfit(&[
-                sender_check(figures, *sender),
-                id_check(figures, *id),
-                timestamp_check(*timestamp),
-                ballot_check(*ballot),
-            ]),
-            Message::MConsensusAck { sender, id, ballot } => {
-                first_unfit(&[
-                    sender_check(figures, *sender),
-                    id_check(figures, *id),
-                    ballot_check(*ballot),
-                ])
+                ..
+            } => {
+                check_timestamp(*timestamp)?;
+                check_ballot(*ballot)
             }
-            Message::MRec { sender, id, ballot } => {
-                first_unfit(&[
-                    sender_check(figures, *sender),
-                    id_check(figures, *id),
-                    takeover_check(figures, *ballot),
-                ])
-            }
+            Message::MConsensusAck { ballot, .. } => check_ballot(*ballot),
+            Message::MRec { ballot, .. } => check_takeover(figures, *ballot),
             Message::MRecAck {
-                sender,
-                id,
                 timestamp,
                 phase,
                 accepted,
                 ballot,
-            } => first_unfit(&[
-                sender_check(figures, *sender),
-                id_check(figures, *id),
-                timestamp_check(*timestamp),
-                phase_check(*phase),
-                Check {
-                    field: Field::Accepted,
-                    fits: *accepted <= LAST_BALLOT,
-                },
-                ballot_check(*ballot),
-            ]),
-            Message::MPromises { sender, promises } => first_unfit(&[
-                sender_check(figures, *sender),
-                Check {
-                    field: Field::Detached,
-                    fits: detached_fits(&promises.detached),
-                },
-                Check {
-                    field: Field::Pairs,
-                    fits: pairs_fit(figures, promises),
-                },
-            ]),
+                ..
+            } => check_answer(*timestamp, *phase, *accepted, *ballot),
+            Message::MPromises { promises, .. } => check_promises(figures, promises),
         }
+    }
+
+    /// Refuses the first field that is outside its limits, in the order of the bytes.
+    #[tactic(auto, using(crate::proofs::Checks::unfit_append))]
+    pub fn check(&self, figures: &Figures) -> Result<(), Field>
+        ensures { result_err result ≡ unfit figures.now.r figures.now.f self.now }
+    {
+        self.check_first(figures)?;
+        self.check_rest(figures)
+    }
+
+    /// The first field that is outside its limits, in the order of the bytes.
+    pub fn unfit(&self, figures: &Figures) -> Option<Field>
+        ensures { result ≡ unfit figures.now.r figures.now.f self.now }
+    {
+        self.check(figures).err()
     }
 }

@@ -8,7 +8,7 @@ pub const WORDS: usize = 25;
 pub const PAIRS: usize = 224;
 
 /// A controller's own promise for one change.
-#[derive(Clone, Copy, PartialEq, Eq, Debug)]
+#[derive(Clone, Copy, Default, PartialEq, Eq, Debug)]
 pub struct Pair {
     pub id: u32,
     pub timestamp: u32,
@@ -16,6 +16,7 @@ pub struct Pair {
 
 /// The promises that a controller tells: bit k of word w is the detached timestamp 64w + k + 1;
 /// the first `count` pairs are its own promises, and the places after them are zero.
+// kept: fixed memory, since after commissioning no call allocates.
 #[derive(Clone, Copy, PartialEq, Eq, Debug)]
 pub struct Promises {
     pub detached: [u64; WORDS],
@@ -23,7 +24,8 @@ pub struct Promises {
     pub pairs: [Pair; PAIRS],
 }
 
-/// A message of the line. Its numbers may be anything; `unfit` says whether they are within their limits.
+/// A message of the line. Its numbers may be anything; `check` and `unfit` say whether they are within their limits.
+// kept: a phase is a number here, since what comes on the line is held first and judged by `check`.
 #[derive(Clone, Copy, PartialEq, Eq, Debug)]
 pub enum Message {
     MPayload {

@@ -1,17 +1,19 @@
 //! Reading a message from bytes.
 
-ghost use Rattle.std.specs.Prelude.{◌≡◌, ℕ, ◌+◌, ◌*◌, ◌≤◌, List, ◌++◌, length, drop, if◌then◌else◌, Ok, Err};
+ghost use Rattle.std.specs.Prelude.{◌≡◌, ℕ, ◌+◌, ◌*◌, ◌≤◌, List, ◌++◌, length, drop, if◌then◌else◌, nat_lt, Ok, Err};
 ghost use Rattle.line_format.specs.declared.fault.LineFault.TheVariants.{Malformed};
 ghost use Rattle.line_format.specs.declared.message.Message.TheVariants.{MPromises};
 ghost use Rattle.line_format.specs.Fields.{int_at, hyper_at, pair_at, fields_at};
 ghost use Rattle.line_format.specs.Laws.{Encoded};
-ghost use Rattle.line_format.specs.Reading.{change_in, set_in, promises_in, promises_shaped, shape, reading};
+ghost use Rattle.line_format.specs.Reading.{change_in, set_in, promises_in, promises_shaped, no_pair, no_pairs, shape, reading};
 
 use crate::fault::LineFault;
 use crate::message::{Message, PAIRS, Pair, Promises, WORDS};
 use schedule::{Change, ControllerSet, Figures};
+use std::array;
 
 /// The unsigned int at a place.
+// kept: the bound stands at each reader of a place; `first_chunk` would answer an Option, unwrapped by the same bound.
 fn int_at(bytes: &[u8], at: usize) -> u32
     requires { at + 4 ≤ length bytes.now }
     ensures { result ≡ int_at bytes.now at }
@@ -70,39 +72,32 @@ fn set_in(bytes: &[u8]) -> ControllerSet
     }
 }
 
-/// A field of eight bytes: a promise word or a pair.
-trait Wide: Copy {
-    ghost found: { List ℕ → ℕ → Self };
-
-    fn get(bytes: &[u8], at: usize) -> Self
-        requires { at + 8 ≤ length bytes.now }
-        ensures { result ≡ Self.Wide.found bytes.now at };
-}
-
-impl Wide for u64 {
-    ghost found = { hyper_at };
-
-    fn get(bytes: &[u8], at: usize) -> u64 {
-        hyper_at(bytes, at)
-    }
-}
-
-impl Wide for Pair {
-    ghost found = { pair_at };
-
-    fn get(bytes: &[u8], at: usize) -> Pair {
-        pair_at(bytes, at)
-    }
-}
-
-/// Fills the first places of a table with the fields from a place on.
-fn fill<F: Wide>(bytes: &[u8], at: usize, count: usize, table: &mut [F])
-    requires { (at + 8 * count ≤ length bytes.now) × (count ≤ length table.old) }
-    ensures { table.new ≡ fields_at F.Wide.found 8 bytes.now at count ++ drop count table.old }
+/// The words of MPromises.
+fn words_in(bytes: &[u8]) -> [u64; WORDS]
+    requires { 208 ≤ length bytes.now }
+    ensures { result ≡ fields_at hyper_at 8 bytes.now 8 25 }
 {
-    for i in 0..count {
-        table[i] = F::get(bytes, at + 8 * i);
+    array::from_fn(|w| hyper_at(bytes, 8 + 8 * w))
+}
+
+/// A pair of MPromises, or past the last a pair that is not used.
+fn pair_in(bytes: &[u8], count: usize, k: usize) -> Pair
+    requires { 212 + 8 * count ≤ length bytes.now }
+    ensures { result ≡ (if nat_lt k count then pair_at bytes.now (212 + 8 * k) else no_pair) }
+{
+    if k < count {
+        pair_at(bytes, 212 + 8 * k)
+    } else {
+        Pair::default()
     }
+}
+
+/// The pairs of MPromises, and then pairs that are not used.
+fn pairs_in(bytes: &[u8], count: usize) -> [Pair; PAIRS]
+    requires { (count ≤ 224) × (length bytes.now ≡ 212 + 8 * count) }
+    ensures { result ≡ fields_at pair_at 8 bytes.now 212 count ++ drop count no_pairs }
+{
+    array::from_fn(move |k| pair_in(bytes, count, k))
 }
 
 /// The promises of MPromises, once their count is known to be small enough.
@@ -110,17 +105,10 @@ fn promises_in(bytes: &[u8], count: u32) -> Promises
     requires { (count ≡ int_at bytes.now 208) × ((count ≤ 224) × (length bytes.now ≡ 212 + 8 * count)) }
     ensures { result ≡ promises_in bytes.now }
 {
-    let mut detached = [0; WORDS];
-    fill(bytes, 8, WORDS, &mut detached);
-    let mut pairs = [Pair {
-        id: 0,
-        timestamp: 0,
-    }; PAIRS];
-    fill(bytes, 212, count as usize, &mut pairs);
     Promises {
-        detached,
+        detached: words_in(bytes),
         count,
-        pairs,
+        pairs: pairs_in(bytes, count as usize),
     }
 }
 
@@ -143,6 +131,7 @@ fn promises_shape(bytes: &[u8]) -> Result<Message, LineFault>
 }
 
 /// The message of a type and length, whatever its numbers.
+// kept: one arm of one value for each of the nine messages; the numbers are the types of the format.
 pub fn shape(bytes: &[u8]) -> Result<Message, LineFault>
     ensures { result ≡ shape bytes.now }
 {
@@ -211,8 +200,6 @@ pub fn read(figures: &Figures, bytes: &[u8]) -> Result<Message, LineFault>
     ensures encoded { Encoded bytes.now result }
 {
     let message = shape(bytes)?;
-    match message.unfit(figures) {
-        None => Ok(message),
-        Some(_) => Err(LineFault::OutsideLimits),
-    }
+    message.check(figures)?;
+    Ok(message)
 }

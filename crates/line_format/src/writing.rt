@@ -3,7 +3,7 @@
 ghost use Rattle.std.specs.Prelude.{◌≡◌, ℕ, ◌+◌, ◌≤◌, true, List, length};
 ghost use Rattle.line_format.specs.Fields.{int_bytes, hyper_bytes, pair_bytes, fields};
 ghost use Rattle.line_format.specs.Encoding.{promises_bytes, encode};
-ghost use Rattle.line_format.specs.Writing.{laid_at, count_fits, writing, Written};
+ghost use Rattle.line_format.specs.Writing.{HasRoom, Puts, count_fits, writing, Written};
 
 use crate::fault::LineFault;
 use crate::message::{Message, PAIRS, Pair, Promises};
@@ -12,94 +12,61 @@ use schedule::Figures;
 /// Every outgoing buffer has at least this many bytes, so that every message fits.
 pub const LEAST_BUFFER: usize = 2048;
 
-/// Lays bytes into a buffer at a place, and answers the place after them.
-fn put_bytes(buffer: &mut [u8], at: usize, bytes: &[u8]) -> usize
-    requires { at + length bytes.now ≤ length buffer.old }
-    ensures place { result ≡ at + length bytes.now }
-    ensures after { buffer.new ≡ laid_at at bytes.now buffer.old }
-{
-    let end = at + bytes.len();
-    buffer[at..end].copy_from_slice(bytes);
-    end
+/// A buffer that is written from the front, and the place after what is written.
+#[derive(Drop)]
+struct Writer<'a> {
+    buffer: &'a mut [u8],
+    at: usize,
 }
 
-/// A field as it is written: an unsigned int, an unsigned hyper or a pair.
-trait Put {
-    ghost code: { Self → List ℕ };
-
-    fn put(&self, buffer: &mut [u8], at: usize) -> usize
-        requires { at + length (Self.Put.code self.now) ≤ length buffer.old }
-        ensures place { result ≡ at + length (Self.Put.code self.now) }
-        ensures after { buffer.new ≡ laid_at at (Self.Put.code self.now) buffer.old };
-}
-
-impl Put for u32 {
-    ghost code = { int_bytes };
-
-    fn put(&self, buffer: &mut [u8], at: usize) -> usize {
-        put_bytes(buffer, at, &self.to_be_bytes())
+impl Writer<'_> {
+    /// Puts bytes at the writer's place.
+    fn put_bytes(&mut self, bytes: &[u8])
+        requires { HasRoom self.old (length bytes.now) }
+        ensures { Puts self.old self.new bytes.now }
+    {
+        let at = self.at;
+        let end = at + bytes.len();
+        let buffer = &mut *self.buffer;
+        buffer[at..end].copy_from_slice(bytes);
+        self.at = end;
     }
-}
 
-impl Put for u64 {
-    ghost code = { hyper_bytes };
-
-    fn put(&self, buffer: &mut [u8], at: usize) -> usize {
-        put_bytes(buffer, at, &self.to_be_bytes())
+    /// Puts fields one after the other.
+    fn put_all<F: Put>(&mut self, all: &[F])
+        requires { HasRoom self.old (length (fields F.Put.code all.now)) }
+        ensures { Puts self.old self.new (fields F.Put.code all.now) }
+    {
+        for field in all {
+            field.put(self);
+        }
     }
-}
 
-impl Put for Pair {
-    ghost code = { pair_bytes };
-
-    fn put(&self, buffer: &mut [u8], at: usize) -> usize {
-        let mid = self.id.put(buffer, at);
-        self.timestamp.put(buffer, mid)
+    /// Puts the words, the count and the pairs of MPromises.
+    fn put_promises(&mut self, promises: &Promises)
+        requires { (promises.now.count ≤ 224) × HasRoom self.old 1996 }
+        ensures { Puts self.old self.new (promises_bytes promises.now) }
+    {
+        let (used, _) = promises.pairs.split_at(promises.count as usize);
+        self.put_all(&promises.detached);
+        self.put_all(&[promises.count]);
+        self.put_all(used);
     }
-}
 
-/// Lays fields one after the other.
-fn put_all<F: Put>(buffer: &mut [u8], at: usize, all: &[F]) -> usize
-    requires { at + length (fields F.Put.code all.now) ≤ length buffer.old }
-    ensures place { result ≡ at + length (fields F.Put.code all.now) }
-    ensures after { buffer.new ≡ laid_at at (fields F.Put.code all.now) buffer.old }
-{
-    let mut end = at;
-    for field in all {
-        end = field.put(buffer, end);
-    }
-    end
-}
-
-/// The words, the count and the pairs of MPromises.
-fn put_promises(promises: &Promises, buffer: &mut [u8], at: usize) -> usize
-    requires { (promises.now.count ≤ 224) × (at + 1996 ≤ length buffer.old) }
-    ensures place { result ≡ at + length (promises_bytes promises.now) }
-    ensures after { buffer.new ≡ laid_at at (promises_bytes promises.now) buffer.old }
-{
-    let (used, _) = promises.pairs.split_at(promises.count as usize);
-    let mid = put_all(buffer, at, &promises.detached);
-    let start = put_all(buffer, mid, &[promises.count]);
-    put_all(buffer, start, used)
-}
-
-/// Lays a message at the start of a buffer that is long enough.
-fn lay(message: &Message, buffer: &mut [u8]) -> usize
-    requires { (count_fits message.now ≡ true) × (2048 ≤ length buffer.old) }
-    ensures place { result ≡ length (encode message.now) }
-    ensures after { buffer.new ≡ laid_at 0 (encode message.now) buffer.old }
-{
-    match message {
-        Message::MPayload {
-            sender,
-            id,
-            change: c,
-            set,
-        } => {
-            put_all(
-                buffer,
-                0,
-                &[
+    /// Puts a message, for which there is room.
+    // kept: one arm of one call for each of the nine messages.
+    fn put_message(&mut self, message: &Message)
+        requires { (count_fits message.now ≡ true) × HasRoom self.old 2004 }
+        ensures { Puts self.old self.new (encode message.now) }
+    {
+        match message {
+            Message::MPayload {
+                sender,
+                id,
+                change: c,
+                set,
+            } => {
+                self.put_all(&[
                     1,
                     *sender,
                     *id,
@@ -109,19 +76,15 @@ fn lay(message: &Message, buffer: &mut [u8]) -> usize
                     c.slot,
                     c.value,
                     set.bits,
-                ],
-            )
-        }
-        Message::MPropose {
-            sender,
-            id,
-            change: c,
-            set,
-            timestamp,
-        } => put_all(
-            buffer,
-            0,
-            &[
+                ])
+            }
+            Message::MPropose {
+                sender,
+                id,
+                change: c,
+                set,
+                timestamp,
+            } => self.put_all(&[
                 2,
                 *sender,
                 *id,
@@ -132,48 +95,75 @@ fn lay(message: &Message, buffer: &mut [u8]) -> usize
                 c.value,
                 set.bits,
                 *timestamp,
-            ],
-        ),
-        Message::MProposeAck {
-            sender,
-            id,
-            timestamp,
-        } => put_all(buffer, 0, &[3, *sender, *id, *timestamp]),
-        Message::MCommit {
-            sender,
-            id,
-            timestamp,
-        } => put_all(buffer, 0, &[4, *sender, *id, *timestamp]),
-        Message::MConsensus {
-            sender,
-            id,
-            timestamp,
-            ballot,
-        } => { put_all(buffer, 0, &[5, *sender, *id, *timestamp, *ballot]) }
-        Message::MConsensusAck { sender, id, ballot } => put_all(
-            buffer,
-            0,
-            &[6, *sender, *id, *ballot],
-        ),
-        Message::MRec { sender, id, ballot } => put_all(buffer, 0, &[7, *sender, *id, *ballot]),
-        Message::MRecAck {
-            sender,
-            id,
-            timestamp,
-            phase,
-            accepted,
-            ballot,
-        } => {
-            put_all(
-                buffer,
-                0,
-                &[8, *sender, *id, *timestamp, *phase, *accepted, *ballot],
-            )
+            ]),
+            Message::MProposeAck {
+                sender,
+                id,
+                timestamp,
+            } => self.put_all(&[3, *sender, *id, *timestamp]),
+            Message::MCommit {
+                sender,
+                id,
+                timestamp,
+            } => self.put_all(&[4, *sender, *id, *timestamp]),
+            Message::MConsensus {
+                sender,
+                id,
+                timestamp,
+                ballot,
+            } => { self.put_all(&[5, *sender, *id, *timestamp, *ballot]) }
+            Message::MConsensusAck { sender, id, ballot } => self.put_all(&[
+                6, *sender, *id, *ballot,
+            ]),
+            Message::MRec { sender, id, ballot } => self.put_all(&[7, *sender, *id, *ballot]),
+            Message::MRecAck {
+                sender,
+                id,
+                timestamp,
+                phase,
+                accepted,
+                ballot,
+            } => { self.put_all(&[8, *sender, *id, *timestamp, *phase, *accepted, *ballot]) }
+            Message::MPromises { sender, promises } => {
+                self.put_all(&[9, *sender]);
+                self.put_promises(promises)
+            }
         }
-        Message::MPromises { sender, promises } => {
-            let mid = put_all(buffer, 0, &[9, *sender]);
-            put_promises(promises, buffer, mid)
-        }
+    }
+}
+
+/// A field as it is written: an unsigned int, an unsigned hyper or a pair.
+trait Put {
+    ghost code: { Self → List ℕ };
+
+    fn put(&self, writer: &mut Writer)
+        requires { HasRoom writer.old (length (Self.Put.code self.now)) }
+        ensures { Puts writer.old writer.new (Self.Put.code self.now) };
+}
+
+// kept: `to_be_bytes` is a method of each type and of no trait, so the two bodies stay one line each.
+impl Put for u32 {
+    ghost code = { int_bytes };
+
+    fn put(&self, writer: &mut Writer) {
+        writer.put_bytes(&self.to_be_bytes())
+    }
+}
+
+impl Put for u64 {
+    ghost code = { hyper_bytes };
+
+    fn put(&self, writer: &mut Writer) {
+        writer.put_bytes(&self.to_be_bytes())
+    }
+}
+
+impl Put for Pair {
+    ghost code = { pair_bytes };
+
+    fn put(&self, writer: &mut Writer) {
+        self.id.put(writer);
+        self.timestamp.put(writer)
     }
 }
 
@@ -200,8 +190,8 @@ pub fn write(figures: &Figures, message: &Message, buffer: &mut [u8]) -> Result<
     if !message.count_fits() {
         return Err(LineFault::Malformed);
     }
-    if message.unfit(figures).is_some() {
-        return Err(LineFault::OutsideLimits);
-    }
-    Ok(lay(message, buffer))
+    message.check(figures)?;
+    let mut writer = Writer { buffer, at: 0 };
+    writer.put_message(message);
+    Ok(writer.at)
 }

@@ -4,56 +4,50 @@
 #[cfg(test)]
 mod tests {
     use line_format::message::{PAIRS, WORDS};
-    use line_format::{Message, Pair, Promises, read, write};
+    use line_format::{LineFault, Message, Pair, Promises, read, write};
     use schedule::Figures;
+    use std::array;
     use std::process::Abort;
     use std::test::Fail;
 
     const LEN: usize = 2048;
 
-    // 0 where bytes are read as a message that is written as the same bytes, else the number of the refusal;
-    // 99 where the writer disagrees with the reader.
-    fn judged(figures: &Figures, bytes: &[u8]) -> u32 {
-        let message = match read(figures, bytes) {
-            Ok(message) => message,
-            Err(fault) => return fault.number(),
-        };
+    // Bytes that are read as a message are what that message is written as.
+    fn judged(rt: &impl Abort, figures: &Figures, bytes: &[u8]) -> Result<(), LineFault> {
+        let message = read(figures, bytes)?;
         let mut buffer = [0xee; LEN];
-        match write(figures, &message, &mut buffer) {
-            Ok(len) if len == bytes.len() && len <= LEN && &buffer[0..len] == bytes => 0,
-            _ => 99,
+        let len = write(figures, &message, &mut buffer).expect(rt, "what is read is written");
+        assert!(rt; buffer.get(..len) == Some(bytes));
+        Ok(())
+    }
+
+    // 0, or the number of the refusal
+    fn number(answer: Result<(), LineFault>) -> u32 {
+        match answer {
+            Ok(()) => 0,
+            Err(fault) => fault.number(),
         }
     }
 
-    // Ints as bytes, most significant byte first, and the rest of a buffer.
-    fn lay(ints: &[u32], buffer: &mut [u8; LEN]) -> usize {
-        let mut at = 0;
-        for n in ints {
-            let [a, b, c, d] = n.to_be_bytes();
-            if at <= LEN - 4 {
-                buffer[at] = a;
-                buffer[at + 1] = b;
-                buffer[at + 2] = c;
-                buffer[at + 3] = d;
-                at += 4;
-            }
+    // Ints as bytes at the start of a buffer, most significant byte first.
+    fn lay(ints: &[u32], buffer: &mut [u8; LEN]) {
+        let (places, _) = buffer.as_chunks_mut();
+        for (place, n) in places.iter_mut().zip(ints) {
+            *place = n.to_be_bytes();
         }
-        at
     }
 
-    fn judged_ints(figures: &Figures, ints: &[u32]) -> u32 {
+    fn judged_ints(rt: &impl Abort, figures: &Figures, ints: &[u32]) -> u32 {
         let mut buffer = [0; LEN];
-        let len = lay(ints, &mut buffer);
-        if len > LEN {
-            return 99;
-        }
-        judged(figures, &buffer[0..len])
+        lay(ints, &mut buffer);
+        let len = 4 * ints.len().min(LEN / 4);
+        number(judged(rt, figures, &buffer[..len]))
     }
 
     // every case is judged as it says
     fn all<const N: usize>(rt: &impl Abort, figures: &Figures, cases: &[([u32; N], u32)]) {
-        for case in cases {
-            assert_eq!(rt; judged_ints(figures, &case.0), case.1);
+        for (ints, number) in cases {
+            assert_eq!(rt; judged_ints(rt, figures, ints), *number);
         }
     }
 
@@ -125,15 +119,21 @@ mod tests {
     #[test]
     fn longer_steps_at_the_edges_of_their_fields(rt: HostRuntime) -> Result<(), Fail> {
         let group = Figures::new(5, 2)?;
-        assert_eq!(rt; judged_ints(&group, &[2, 1, 1, 1, 1, 0, 0, 0, 15, 1]), 0);
         assert_eq!(rt;
-            judged_ints(&group, &[2, 1, 1, 1, 1, 0, 0, 0, 15, 1569]),
+            judged_ints(&rt, &group, &[2, 1, 1, 1, 1, 0, 0, 0, 15, 1]),
+            0
+        );
+        assert_eq!(rt;
+            judged_ints(&rt, &group, &[2, 1, 1, 1, 1, 0, 0, 0, 15, 1569]),
             14
         );
-        assert_eq!(rt; judged_ints(&group, &[2, 1, 1, 1, 1, 0, 0, 0, 7, 1]), 14);
-        assert_eq!(rt; judged_ints(&group, &[5, 5, 160, 1568, 65_535]), 0);
-        assert_eq!(rt; judged_ints(&group, &[5, 5, 160, 1568, 0]), 14);
-        assert_eq!(rt; judged_ints(&group, &[5, 5, 160, 0, 1]), 14);
+        assert_eq!(rt;
+            judged_ints(&rt, &group, &[2, 1, 1, 1, 1, 0, 0, 0, 7, 1]),
+            14
+        );
+        assert_eq!(rt; judged_ints(&rt, &group, &[5, 5, 160, 1568, 65_535]), 0);
+        assert_eq!(rt; judged_ints(&rt, &group, &[5, 5, 160, 1568, 0]), 14);
+        assert_eq!(rt; judged_ints(&rt, &group, &[5, 5, 160, 0, 1]), 14);
         let cases = [
             ([8, 1, 1, 1, 1, 0, 1], 0),
             ([8, 1, 1, 1568, 4, 65_535, 65_535], 0),
@@ -164,9 +164,9 @@ mod tests {
             (9, 212),
         ];
         for (kind, len) in lengths {
-            let _ = lay(&[kind, 1], &mut buffer);
+            lay(&[kind, 1], &mut buffer);
             for other in 0..300usize {
-                let number = judged(&group, &buffer[0..other]);
+                let number = number(judged(&rt, &group, &buffer[..other]));
                 assert!(rt; number == 13 || other == len);
             }
         }
@@ -178,10 +178,7 @@ mod tests {
         let mut detached = [0; WORDS];
         detached[0] = u64::MAX;
         detached[WORDS - 1] = last;
-        let mut pairs = [Pair {
-            id: 0,
-            timestamp: 0,
-        }; PAIRS];
+        let mut pairs = [Pair::default(); PAIRS];
         pairs[0] = Pair {
             id: first.0,
             timestamp: first.1,
@@ -200,16 +197,15 @@ mod tests {
         }
     }
 
-    // 0 where a message is written and reads back as itself, else the number of the refusal
-    fn written(figures: &Figures, message: &Message) -> u32 {
-        let mut buffer = [0; LEN];
+    // A message that is written reads back as itself: 0, or the number of the refusal.
+    fn written(rt: &impl Abort, figures: &Figures, message: &Message) -> u32 {
+        let mut buffer = [0xee; LEN];
         match write(figures, message, &mut buffer) {
             Err(fault) => fault.number(),
-            Ok(len) if len > LEN => 99,
-            Ok(len) => match read(figures, &buffer[0..len]) {
-                Ok(again) if again == *message => 0,
-                _ => 99,
-            },
+            Ok(len) => {
+                assert!(rt; len <= LEN && read(figures, &buffer[..len]) == Ok(*message));
+                0
+            }
         }
     }
 
@@ -217,71 +213,55 @@ mod tests {
     fn promises_at_the_edges_of_their_fields(rt: HostRuntime) -> Result<(), Fail> {
         let group = Figures::new(3, 1)?;
         let none = (0, 0);
-        assert_eq!(rt; written(&group, &promises(0, 0, none, none)), 0);
-        assert_eq!(rt; written(&group, &promises(0xffff_ffff, 0, none, none)), 0);
+        assert_eq!(rt; written(&rt, &group, &promises(0, 0, none, none)), 0);
         assert_eq!(rt;
-            written(&group, &promises(0x1_0000_0000, 0, none, none)),
+            written(&rt, &group, &promises(0xffff_ffff, 0, none, none)),
+            0
+        );
+        assert_eq!(rt;
+            written(&rt, &group, &promises(0x1_0000_0000, 0, none, none)),
             14
         );
-        assert_eq!(rt; written(&group, &promises(0, 2, (1, 1), (96, 1568))), 0);
-        assert_eq!(rt; written(&group, &promises(0, 2, (1, 1), (97, 1))), 14);
-        assert_eq!(rt; written(&group, &promises(0, 2, (2, 1), (2, 1))), 14);
-        assert_eq!(rt; written(&group, &promises(0, 2, (2, 1), (1, 1))), 14);
-        assert_eq!(rt; written(&group, &promises(0, 1, (0, 1), none)), 14);
-        assert_eq!(rt; written(&group, &promises(0, 1, (1, 0), none)), 14);
-        assert_eq!(rt; written(&group, &promises(0, 1, (1, 1569), none)), 14);
-        assert_eq!(rt; written(&group, &promises(0, 1, (1, 1), (2, 2))), 14);
-        assert_eq!(rt; written(&group, &promises(0, 225, (1, 1), none)), 13);
-        assert_eq!(rt; written(&group, &promises(0, u32::MAX, (1, 1), none)), 13);
+        assert_eq!(rt;
+            written(&rt, &group, &promises(0, 2, (1, 1), (96, 1568))),
+            0
+        );
+        assert_eq!(rt; written(&rt, &group, &promises(0, 2, (1, 1), (97, 1))), 14);
+        assert_eq!(rt; written(&rt, &group, &promises(0, 2, (2, 1), (2, 1))), 14);
+        assert_eq!(rt; written(&rt, &group, &promises(0, 2, (2, 1), (1, 1))), 14);
+        assert_eq!(rt; written(&rt, &group, &promises(0, 1, (0, 1), none)), 14);
+        assert_eq!(rt; written(&rt, &group, &promises(0, 1, (1, 0), none)), 14);
+        assert_eq!(rt; written(&rt, &group, &promises(0, 1, (1, 1569), none)), 14);
+        assert_eq!(rt; written(&rt, &group, &promises(0, 1, (1, 1), (2, 2))), 14);
+        assert_eq!(rt; written(&rt, &group, &promises(0, 225, (1, 1), none)), 13);
+        assert_eq!(rt;
+            written(&rt, &group, &promises(0, u32::MAX, (1, 1), none)),
+            13
+        );
         Ok(())
     }
 
     #[test]
     fn every_change_of_the_largest_group_promised(rt: HostRuntime) -> Result<(), Fail> {
         let group = Figures::new(7, 3)?;
-        let mut pairs = [Pair {
-            id: 0,
-            timestamp: 0,
-        }; PAIRS];
-        for i in 0..PAIRS {
-            pairs[i] = Pair {
-                id: i as u32 + 1,
-                timestamp: 1568 - i as u32,
-            };
-        }
-        let detached = [u64::MAX; WORDS];
-        let full = Promises {
-            detached,
-            count: 224,
-            pairs,
-        };
-        assert_eq!(rt;
-            written(
-                &group,
-                &Message::MPromises {
-                    sender: 7,
-                    promises: full,
+        let pairs = array::from_fn(|i| Pair {
+            id: i as u32 + 1,
+            timestamp: 1568 - i as u32,
+        });
+        let full = |last: u64| {
+            let mut detached = [u64::MAX; WORDS];
+            detached[WORDS - 1] = last;
+            Message::MPromises {
+                sender: 7,
+                promises: Promises {
+                    detached,
+                    count: 224,
+                    pairs,
                 },
-            ),
-            14
-        );
-        let mut detached = [u64::MAX; WORDS];
-        detached[WORDS - 1] = 0xffff_ffff;
-        let full = Promises {
-            detached,
-            count: 224,
-            pairs,
+            }
         };
-        assert_eq!(rt;
-            written(
-                &group,
-                &Message::MPromises {
-                    sender: 7,
-                    promises: full,
-                },
-            ),
-            0
-        );
+        assert_eq!(rt; written(&rt, &group, &full(u64::MAX)), 14);
+        assert_eq!(rt; written(&rt, &group, &full(0xffff_ffff)), 0);
         Ok(())
     }
 
@@ -303,9 +283,7 @@ mod tests {
         let mut buffer = [0xee; LEN];
         assert_eq!(rt; write(&group, &good, &mut buffer[0..2047]).is_err(), true);
         assert_eq!(rt; write(&group, &bad, &mut buffer).is_err(), true);
-        for b in buffer {
-            assert!(rt; b == 0xee);
-        }
+        assert!(rt; buffer.iter().all(|b| *b == 0xee));
         assert!(rt; write(&group, &good, &mut buffer).is_ok());
         assert!(rt; &buffer[0..16] == [0, 0, 0, 4, 0, 0, 0, 1, 0, 0, 0, 65, 0, 0, 0, 1].as_slice());
         assert!(rt; buffer[16] == 0xee && buffer[2047] == 0xee);

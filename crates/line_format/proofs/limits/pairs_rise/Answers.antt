@@ -1,17 +1,11 @@
-use Rattle.std.proofs.Common.{sym, ◌∙◌, arith}
-use Rattle.std.proofs.lemmas.List.{at_drop_more, at_drop_all}
-use Rattle.std.proofs.lemmas.Bool.Decides.{nat_tests}
+use Rattle.std.proofs.Common.{◌∙◌, rules, ap}
+use Rattle.std.proofs.iter.Yields.{fronts}
+use Rattle.std.specs.Slice.Iter.{iter_rest}
 use Rattle.line_format.specs.Limits.{pairs_rise}
-use Rattle.line_format.specs.Reading.{no_pair}
+use Rattle.line_format.proofs.Rising.{rise_by_turns}
 use Rattle.line_format.proofs.limits.pairs_rise.Goals as goal
 
-pub returns-then-not-pair_fits : goal.returns-then-not-pair_fits
-returns-then-not-pair_fits c =
-    let e = at_drop_more (pairs_rise c.args.figures.now.r c.loop-pair.last) c.args.pairs.now c.loop-pair.pair-index no_pair (omega arith) in grind (arith, nat_tests)
-
-pub loop-pair-preserved : goal.loop-pair-preserved
-loop-pair-preserved c =
-    let e = at_drop_more (pairs_rise c.args.figures.now.r c.loop-pair.last) c.args.pairs.now c.loop-pair.pair-index no_pair (omega arith) in grind (arith, nat_tests)
-
 pub returns : goal.returns
-returns c = sym (c.loop-pair.invariant ∙ at_drop_all (pairs_rise c.args.figures.now.r c.loop-pair.last) c.args.pairs.now c.loop-pair.pair-index (omega arith))
+returns c =
+    let r = c.args.figures.now.r in
+    c.is_some.ensures ∙ (rise_by_turns fronts iter_rest (λ s t x p. p) (λ s t p. p.0) r _ _ _ c.iter.result _ 0 c.try_fold.result c.try_fold.ensures.ran (λ n x v q k. search rules) ∙ ap (pairs_rise r 0) c.iter.ensures.rest)
