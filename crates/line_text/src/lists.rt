@@ -34,7 +34,7 @@ pub(crate) fn gather<G: Gathering>(start: G, text: &str) -> Option<G>
     if text == "none" {
         return Some(start);
     }
-    // kept: a `for` with `?`, since the clause says that the list fails where a piece fails, which no chain's clause gives.
+    // kept: a `for` with `?`; `try_fold` would put the same step into a closure, and is no plainer.
     let mut gathered = start;
     for piece in text.split(',') {
         gathered = gathered.with(piece)?;

@@ -75,6 +75,7 @@ pub struct Pairs {
 
 impl Pairs {
     /// No pairs.
+    #[tactic(auto, unfolding(line_format::specs::Reading::no_pairs))]
     pub(crate) fn none() -> Pairs
         ensures { result ≡ none_yet }
     {
