@@ -7,6 +7,7 @@ use services::{Answer, HOUR_SECONDS, Service};
 use std::fmt;
 
 /// What happened to a change, in words.
+// kept: an outcome is a pair of numbers by a rule of the project, as a service answers it.
 #[derive(Clone, Copy)]
 pub struct Told {
     pub change: Change,

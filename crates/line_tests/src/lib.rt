@@ -22,6 +22,7 @@ mod tests {
     }
 
     // 0, or the number of the refusal
+    // kept: a number, since the tables of cases keep their values.
     fn number(answer: Result<(), LineFault>) -> u32 {
         match answer {
             Ok(()) => 0,

@@ -89,6 +89,7 @@ impl Book {
     }
 
     /// Who has the say below that, where final say stands over final say.
+    // kept: 0 for nobody, as in `say`.
     pub fn inner_say(&self, hour: u32) -> Option<u32>
         ensures { result ≡ book_inner_say (book_meaning self.now) hour }
     {

@@ -1,5 +1,5 @@
 -- A change of the day: the numbers and names of departments and kinds, and the limits of its fields.
-use Rattle.std.specs.Prelude.{ℕ, Bool, cond, ◌&&◌, List, Some, None, codes, Option, ◌==◌, nat_le, nat_lt}
+use Rattle.std.specs.Prelude.{ℕ, Bool, cond, ◌&&◌, List, Some, None, codes, Option, ◌==◌, nat_le, nat_lt, slice_index}
 use Rattle.std.specs.Str.{bytes_eq}
 use Rattle.schedule.specs.declared.change.Change.{Change}
 use Rattle.schedule.specs.declared.change.Department.{Department}
@@ -57,6 +57,11 @@ unknown n = record { 0 = n }
 -- what is answered for a name that nothing has
 abbrev pub nameless : UnknownName
 nameless = record {}
+
+-- a change by its numbers, in the order in which they are written
+abbrev pub change_by : List ℕ → Change
+change_by ns =
+    record { department = slice_index ns 0; kind = slice_index ns 1; hour = slice_index ns 2; slot = slice_index ns 3; value = slice_index ns 4 }
 
 -- hours of a day and slots of an hour, both counted from 0; the greatest value
 abbrev pub hours : ℕ

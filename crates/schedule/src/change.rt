@@ -1,7 +1,7 @@
 //! A change of the day, and the departments and kinds that its numbers stand for.
 
 ghost use Rattle.std.specs.Prelude.{◌≡◌, Some, ok_or};
-ghost use Rattle.schedule.specs.Changes.{change_fits, department_number, department_of, department_name, department_named, kind_number, kind_of, kind_name, kind_named, unknown, nameless};
+ghost use Rattle.schedule.specs.Changes.{change_by, change_fits, department_number, department_of, department_name, department_named, kind_number, kind_of, kind_name, kind_named, unknown, nameless};
 
 use crate::unknown::{UnknownName, UnknownNumber};
 use std::fmt;
@@ -174,6 +174,21 @@ impl FromStr for Kind {
             "claim" => Ok(Kind::Claim),
             "yield" => Ok(Kind::Yield),
             _ => Err(UnknownName),
+        }
+    }
+}
+
+/// A change by its numbers: department, kind, hour, slot, value.
+impl From<[u32; 5]> for Change {
+    ghost from_gives = { λ numbers change. change ≡ change_by numbers };
+
+    fn from([department, kind, hour, slot, value]: [u32; 5]) -> Change {
+        Change {
+            department,
+            kind,
+            hour,
+            slot,
+            value,
         }
     }
 }

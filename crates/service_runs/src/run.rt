@@ -22,6 +22,7 @@ pub fn run<S: Service>(service: &mut S, changes: &[Change])
 }
 
 /// Carries out a change: what was told if it is done, else its outcome, and then the service is as it was.
+// kept: a refused outcome is a pair of numbers by a rule of the project.
 pub fn attempt<S: Steady>(service: &mut S, change: &Change) -> Result<u32, (u32, u32)>
     ensures answers { result ≡ as_result (S.Service.outcome (S.Service.meaning service.old) change.now) }
     ensures moves { S.Service.meaning service.new ≡ S.Service.next (S.Service.meaning service.old) change.now }

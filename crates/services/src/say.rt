@@ -77,6 +77,7 @@ impl<S> FinalSay<S> {
     }
 
     /// The number for who has the say of an hour: 0 nobody or an hour outside the day, else the department.
+    // kept: a number by a rule of the project, told in outcomes; `holder` answers the department.
     pub fn say(&self, hour: u32) -> u32
         ensures { result ≡ say_at self.now.says hour }
     {

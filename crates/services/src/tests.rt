@@ -4,20 +4,10 @@ use crate::*;
 use schedule::{Change, Department};
 use std::process::Abort;
 
-fn change([department, kind, hour, slot, value]: [u32; 5]) -> Change {
-    Change {
-        department,
-        kind,
-        hour,
-        slot,
-        value,
-    }
-}
-
 /// Carries out each change and compares the outcome.
 fn answers<S: Service>(rt: &impl Abort, service: &mut S, plan: &[([u32; 5], (u32, u32))]) {
     for (numbers, outcome) in plan {
-        assert_eq!(rt; service.carry_out(&change(*numbers)), *outcome);
+        assert_eq!(rt; service.carry_out(&Change::from(*numbers)), *outcome);
     }
 }
 
