@@ -69,9 +69,8 @@ impl fmt::Display for Account {
     fn fmt<W: fmt::Write>(&self, f: &mut fmt::Formatter<W>) -> fmt::Result {
         let read = self.all_read();
         writeln!(f, "read            {read:>8}")?;
-        for form in FORMS {
+        for (form, count) in FORMS.iter().zip(&self.read) {
             let name = form.name();
-            let count = self.read[form as usize];
             writeln!(f, "  {name:<14}{count:>8}")?;
         }
         let written = self.written;

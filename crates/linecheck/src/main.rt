@@ -35,9 +35,7 @@ fn main(rt: HostRuntime) -> anyhow::Result<()> {
     };
     let mut bench = Bench::new(first(heap, opening.as_str(), &mut out)?);
     let mut text = String::new(heap);
-    let mut number: u64 = 1;
-    for next in lines {
-        number = number.saturating_add(1);
+    for (number, next) in (2..=u64::MAX).zip(lines) {
         text.clear();
         match next {
             Ok(line) if passed_over(line.as_str()) => continue,
