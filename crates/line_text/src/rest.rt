@@ -40,7 +40,10 @@ impl<'a, 'b> Rest<'a, 'b> {
     }
 
     /// The numbers of fields that should come one after the other.
-    pub(crate) fn numbers<const N: usize>(&mut self, fields: &[Field; N]) -> Result<[u32; N], NotUnderstood>
+    pub(crate) fn numbers<const N: usize>(
+        &mut self,
+        fields: &[Field; N],
+    ) -> Result<[u32; N], NotUnderstood>
         ensures given { result ≡ numbers_first fields.now (texts (iter_rest self.old.words)) }
         ensures left { OnOk result (texts (iter_rest self.new.words) ≡ drop (length fields.now) (texts (iter_rest self.old.words))) }
     {
