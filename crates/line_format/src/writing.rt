@@ -2,12 +2,12 @@
 
 ghost use Rattle.std.specs.Prelude.{◌≡◌, ℕ, ◌+◌, ◌≤◌, true, List, length};
 ghost use Rattle.line_format.specs.Fields.{int_bytes, hyper_bytes, pair_bytes, fields};
-ghost use Rattle.line_format.specs.Encoding.{promises_bytes, encode};
+ghost use Rattle.line_format.specs.Encoding.{entry_bytes, promises_bytes, encode};
 ghost use Rattle.line_format.specs.Writing.{HasRoom, Puts, count_fits, writing, Written};
 
 use crate::fault::LineFault;
 use crate::message::{Message, PAIRS, Pair, Promises};
-use schedule::Figures;
+use schedule::{Change, ControllerSet, Figures};
 
 /// Every outgoing buffer has at least this many bytes, so that every message fits.
 pub const LEAST_BUFFER: usize = 2048;
@@ -42,6 +42,24 @@ impl Writer<'_> {
         }
     }
 
+    /// Puts a message's type, its sender, and a change as it is entered: its id, its fields and its set.
+    fn put_entry(&mut self, kind: u32, sender: u32, id: u32, change: &Change, set: &ControllerSet)
+        requires { HasRoom self.old 36 }
+        ensures { Puts self.old self.new (entry_bytes kind sender id change.now set.now) }
+    {
+        self.put_all(&[
+            kind,
+            sender,
+            id,
+            change.department,
+            change.kind,
+            change.hour,
+            change.slot,
+            change.value,
+            set.bits,
+        ])
+    }
+
     /// Puts the words, the count and the pairs of MPromises.
     fn put_promises(&mut self, promises: &Promises)
         requires { (promises.now.count ≤ 224) × HasRoom self.old 1996 }
@@ -54,7 +72,7 @@ impl Writer<'_> {
     }
 
     /// Puts a message, for which there is room.
-    // kept: one arm of one call for each of the nine messages.
+    // kept: one arm for each of the nine messages.
     fn put_message(&mut self, message: &Message)
         requires { (count_fits message.now ≡ true) × HasRoom self.old 2004 }
         ensures { Puts self.old self.new (encode message.now) }
@@ -63,39 +81,19 @@ impl Writer<'_> {
             Message::MPayload {
                 sender,
                 id,
-                change: c,
+                change,
                 set,
-            } => {
-                self.put_all(&[
-                    1,
-                    *sender,
-                    *id,
-                    c.department,
-                    c.kind,
-                    c.hour,
-                    c.slot,
-                    c.value,
-                    set.bits,
-                ])
-            }
+            } => self.put_entry(1, *sender, *id, change, set),
             Message::MPropose {
                 sender,
                 id,
-                change: c,
+                change,
                 set,
                 timestamp,
-            } => self.put_all(&[
-                2,
-                *sender,
-                *id,
-                c.department,
-                c.kind,
-                c.hour,
-                c.slot,
-                c.value,
-                set.bits,
-                *timestamp,
-            ]),
+            } => {
+                self.put_entry(2, *sender, *id, change, set);
+                self.put_all(&[*timestamp])
+            }
             Message::MProposeAck {
                 sender,
                 id,

@@ -44,3 +44,37 @@ module _ (fs : List Field) (ws : List (List ℕ)) (ms : List ℕ) (i : ℕ) (f�
 pub all_read : (fs : List Field) (ws : List (List ℕ)) (ms : List ℕ) (i : ℕ) → length fs ≤ i → numbers_first fs ws ≡ joined ms (numbers_first (drop i fs) (drop i ws)) → Ok ms ≡ numbers_first fs ws
 unfolding numbers_first
 all_read fs ws ms i past sofar = sym (sofar ∙ ap (joined ms) (at_drop_all (λ l. numbers_first l (drop i ws)) fs i past) ∙ ap (λ l. Ok l) (append-nil ms))
+
+-- numbers and one more
+drop_after : (n : ℕ) (ws : List (List ℕ)) → drop n (drop 1 ws) ≡ drop (suc n) ws
+drop_after n [] = simp drop-nil
+drop_after n (w ∷ ws) = refl
+
+abbrev pub and_one : Result (List ℕ) NotUnderstood → Result ℕ NotUnderstood → Result (List ℕ) NotUnderstood
+and_one a t = then a (λ ns. then t (λ n. Ok (ns ++ n ∷ [])))
+
+first_of : (r : Result ℕ NotUnderstood) (a b : Result (List ℕ) NotUnderstood) (t : Result ℕ NotUnderstood) → b ≡ and_one a t → then r (λ m. then b (λ ns. Ok (m ∷ ns))) ≡ and_one (then r (λ m. then a (λ ns. Ok (m ∷ ns)))) t
+first_of (Err e) a b t h = refl
+first_of (Ok m) a b t h = ap (λ o. then o (λ ns. Ok (m ∷ ns))) h ∙ under a t
+  where
+    under : (a : Result (List ℕ) NotUnderstood) (t : Result ℕ NotUnderstood) → then (and_one a t) (λ ns. Ok (m ∷ ns)) ≡ and_one (then a (λ ns. Ok (m ∷ ns))) t
+    under (Err e) t = refl
+    under (Ok ns) (Err e) = refl
+    under (Ok ns) (Ok n) = refl
+
+pub numbers_and : (fs : List Field) (f : Field) (ws : List (List ℕ)) → numbers_first (fs ++ f ∷ []) ws ≡ and_one (numbers_first fs ws) (number_first f (drop (length fs) ws))
+unfolding numbers_first
+numbers_and [] f ws = refl
+numbers_and (g ∷ fs) f ws =
+    first_of (number_first g ws) (numbers_first fs (drop 1 ws)) _ (number_first f (drop (length fs) (drop 1 ws))) (numbers_and fs f (drop 1 ws))
+    ∙ ap (λ l. and_one (numbers_first (g ∷ fs) ws) (number_first f l)) (drop_after (length fs) ws)
+
+pub numbers_long : (fs : List Field) (ws : List (List ℕ)) (ns : List ℕ) → Ok ns ≡ numbers_first fs ws → length ns ≡ length fs
+unfolding numbers_first
+numbers_long [] ws ns h = let none : ns ≡ [] = cc in ap length none
+numbers_long (f ∷ fs) ws ns h = each (number_first f ws) (numbers_first fs (drop 1 ws)) (numbers_long fs (drop 1 ws)) ns h
+  where
+    each : (r : Result ℕ NotUnderstood) (a : Result (List ℕ) NotUnderstood) → ((ms : List ℕ) → Ok ms ≡ a → length ms ≡ length fs) → (ns : List ℕ) → Ok ns ≡ then r (λ m. then a (λ ms. Ok (m ∷ ms))) → length ns ≡ suc (length fs)
+    each (Err e) a long ns h = absurd (cc)
+    each (Ok m) (Err e) long ns h = absurd (cc)
+    each (Ok m) (Ok ms) long ns h = let is : ns ≡ m ∷ ms = cc in ap length is ∙ ap suc (long ms refl)

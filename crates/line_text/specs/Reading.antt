@@ -1,5 +1,5 @@
 -- Reading a message from its words.
-use Rattle.std.specs.Prelude.{ℕ, List, [], ◌∷◌, map, length, drop, Ok, Err, Option, Result, slice_index}
+use Rattle.std.specs.Prelude.{ℕ, List, [], ◌∷◌, ◌++◌, map, length, drop, Ok, Err, Option, Result, slice_index}
 use Rattle.std.specs.Option.{ok_or}
 use Rattle.std.specs.Borrow.{Bor}
 use Rattle.schedule.specs.declared.change.Change.{Change}
@@ -62,13 +62,16 @@ entry_change ns = record { department = slice_index ns 2; kind = slice_index ns 
 abbrev pub entry_set : List ℕ → ControllerSet
 entry_set ns = record { bits = slice_index ns 7 }
 
+abbrev pub entry : List ℕ → ℕ × ℕ × Change × ControllerSet
+entry ns = (slice_index ns 0, slice_index ns 1, entry_change ns, entry_set ns)
+
 -- each message: its fields in the order of the bytes
 abbrev pub payload : List (List ℕ) → Result Message NotUnderstood
 payload ws = then (numbers_all entry_fields ws) (λ ns. Ok (MPayload (slice_index ns 0) (slice_index ns 1) (entry_change ns) (entry_set ns)))
 
 abbrev pub propose : List (List ℕ) → Result Message NotUnderstood
 propose ws =
-    then (numbers_all (Sender ∷ Id ∷ Department ∷ Kind ∷ Hour ∷ Slot ∷ Value ∷ Set ∷ Timestamp ∷ []) ws) (λ ns. Ok (MPropose (slice_index ns 0) (slice_index ns 1) (entry_change ns) (entry_set ns) (slice_index ns 8)))
+    then (numbers_all (entry_fields ++ Timestamp ∷ []) ws) (λ ns. Ok (MPropose (slice_index ns 0) (slice_index ns 1) (entry_change ns) (entry_set ns) (slice_index ns 8)))
 
 abbrev pub propose_ack : List (List ℕ) → Result Message NotUnderstood
 propose_ack ws = then (numbers_all (Sender ∷ Id ∷ Timestamp ∷ []) ws) (λ ns. Ok (MProposeAck (slice_index ns 0) (slice_index ns 1) (slice_index ns 2)))

@@ -3,7 +3,7 @@
 ghost use Rattle.std.specs.Prelude.{◌≡◌, IfOk};
 ghost use Rattle.std.specs.Slice.Iter.{iter_rest};
 ghost use Rattle.line_text.specs.Lists.{words};
-ghost use Rattle.line_text.specs.Reading.{texts, payload, propose, propose_ack, commit, consensus, consensus_ack, recover, recover_ack, promises, by_form, said};
+ghost use Rattle.line_text.specs.Reading.{texts, entry, payload, propose, propose_ack, commit, consensus, consensus_ack, recover, recover_ack, promises, by_form, said};
 
 use crate::fault::NotUnderstood;
 use crate::promises::{Detached, Pairs};
@@ -23,68 +23,56 @@ pub fn words<'a>(heap: Global, line: &'a str) -> Result<Vec<&'a str>, AllocError
         .collect(heap)
 }
 
-fn payload(rest: Rest) -> Result<Message, NotUnderstood>
-    ensures { result ≡ payload (texts (iter_rest rest.entry.words)) }
-{
-    let [sender, id, department, kind, hour, slot, value, bits] = rest.all(&[
-        Field::Sender,
-        Field::Id,
-        Field::Department,
-        Field::Kind,
-        Field::Hour,
-        Field::Slot,
-        Field::Value,
-        Field::Set,
-    ])?;
-    Ok(Message::MPayload {
-        sender,
-        id,
-        change: Change {
-            department,
-            kind,
-            hour,
-            slot,
-            value,
-        },
-        set: ControllerSet { bits },
-    })
-}
+/// The fields that MPayload and MPropose begin with.
+const ENTRY: [Field; 8] = [
+    Field::Sender,
+    Field::Id,
+    Field::Department,
+    Field::Kind,
+    Field::Hour,
+    Field::Slot,
+    Field::Value,
+    Field::Set,
+];
 
-fn propose(rest: Rest) -> Result<Message, NotUnderstood>
-    ensures { result ≡ propose (texts (iter_rest rest.entry.words)) }
+/// What the numbers of these fields say: the sender, the id, the change and its set.
+fn entry(numbers: [u32; 8]) -> (u32, u32, Change, ControllerSet)
+    ensures { result ≡ entry numbers }
 {
-    let [
-        sender,
-        id,
+    let [sender, id, department, kind, hour, slot, value, bits] = numbers;
+    let change = Change {
         department,
         kind,
         hour,
         slot,
         value,
-        bits,
-        timestamp,
-    ] = rest.all(&[
-        Field::Sender,
-        Field::Id,
-        Field::Department,
-        Field::Kind,
-        Field::Hour,
-        Field::Slot,
-        Field::Value,
-        Field::Set,
-        Field::Timestamp,
-    ])?;
+    };
+    (sender, id, change, ControllerSet { bits })
+}
+
+fn payload(rest: Rest) -> Result<Message, NotUnderstood>
+    ensures { result ≡ payload (texts (iter_rest rest.entry.words)) }
+{
+    let (sender, id, change, set) = entry(rest.all(&ENTRY)?);
+    Ok(Message::MPayload {
+        sender,
+        id,
+        change,
+        set,
+    })
+}
+
+fn propose(mut rest: Rest) -> Result<Message, NotUnderstood>
+    ensures { result ≡ propose (texts (iter_rest rest.entry.words)) }
+{
+    let (sender, id, change, set) = entry(rest.numbers(&ENTRY)?);
+    let timestamp = rest.number(Field::Timestamp)?;
+    rest.end()?;
     Ok(Message::MPropose {
         sender,
         id,
-        change: Change {
-            department,
-            kind,
-            hour,
-            slot,
-            value,
-        },
-        set: ControllerSet { bits },
+        change,
+        set,
         timestamp,
     })
 }

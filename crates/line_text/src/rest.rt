@@ -40,11 +40,15 @@ impl<'a, 'b> Rest<'a, 'b> {
     }
 
     /// The numbers of fields that should come one after the other.
-    fn numbers<const N: usize>(&mut self, fields: &[Field; N]) -> Result<[u32; N], NotUnderstood>
+    pub(crate) fn numbers<const N: usize>(
+        &mut self,
+        fields: &[Field; N],
+    ) -> Result<[u32; N], NotUnderstood>
         ensures given { result ≡ numbers_first fields.now (texts (iter_rest self.old.words)) }
         ensures left { OnOk result (texts (iter_rest self.new.words) ≡ drop (length fields.now) (texts (iter_rest self.old.words))) }
     {
         let mut numbers = [0; N];
+        // kept: tried `iter_mut().zip(fields)`, where no proof knows what was written through the adapter, and `array::try_from_fn`, whose bound on memory stays open at any N.
         for (i, field) in fields.iter().enumerate() {
             numbers[i] = self.number(*field)?;
         }
