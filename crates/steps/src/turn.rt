@@ -49,7 +49,7 @@ impl Turn<'_> {
         ensures { Holds (promised phase t self.old.row.now) self.old.clock.now self.old self.new }
     {
         self.row.timestamp = t;
-        self.row.promise = t;
+        self.row.promise = Some(t);
         self.row.phase = phase;
     }
 

@@ -18,10 +18,10 @@ fn put_promises(rows: &[Row; PAIRS], pairs: &mut [Pair; PAIRS]) -> usize
     let mut count = 0;
     // kept: tried with a zip of `pairs.iter_mut()`, after which a proof knows none of the pairs that were written
     for (i, row) in rows.iter().enumerate() {
-        if row.promise != 0 {
+        if let Some(timestamp) = row.promise {
             pairs[count] = Pair {
                 id: i as u32 + 1,
-                timestamp: row.promise,
+                timestamp,
             };
             count += 1;
         }
