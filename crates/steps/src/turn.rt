@@ -68,7 +68,7 @@ impl Turn<'_> {
     {
         self.row.timestamp = t;
         self.row.ballot = ballot;
-        self.row.accepted = ballot;
+        self.row.accepted = Some(ballot);
         self.clock.bump(t);
     }
 
