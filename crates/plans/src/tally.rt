@@ -26,7 +26,7 @@ impl Tally {
     }
 
     /// Counts a change by the first number of its outcome.
-    // kept: a number, since a service answers one by a rule of the project; an index test, since after a write through `get_mut` a proof knows no count.
+    // kept: a number, since a service answers one by a rule of the project; an index test, as at `services`' places.
     pub fn note(&mut self, outcome: u32)
         ensures { self.new.counts ≡ noted self.old.counts outcome }
     {

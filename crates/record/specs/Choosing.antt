@@ -15,9 +15,9 @@ use Rattle.record.specs.declared.recoveries.Recovery.{Recovery}
 abbrev pub with_recovery : List (Option Recovery) → ℕ → Recovery → List (Option Recovery)
 with_recovery rs j x = with_reply rs j (Some x)
 
--- the reply of j as an entry of the search
+-- the reply of j as an entry of the search, if it tells of an accepted ballot
 abbrev pub accepted_entry : ℕ → Option Recovery → Option Accepted
-accepted_entry j = option_map (λ x. record { ballot = record { 0 = x.accepted }; controller = j })
+accepted_entry j x = option_map (λ b. record { ballot = record { 0 = b }; controller = j }) (option_and_then (λ y. y.accepted) x)
 
 abbrev pub accepted_entries : List (Option Recovery) → List (Option Accepted)
 accepted_entries rs = map (λ i. accepted_entry (i + 1) (slice_index_or rs i None)) (range_with_len 0 seats)

@@ -1,5 +1,5 @@
 -- The record of one change, and what is altered of it at a time.
-use Rattle.std.specs.Prelude.{ℕ}
+use Rattle.std.specs.Prelude.{ℕ, Some, None, Option}
 use Rattle.schedule.specs.declared.change.Change.{Change}
 use Rattle.schedule.specs.declared.set.ControllerSet.{ControllerSet}
 use Rattle.record.specs.Replies.{no_replies}
@@ -22,7 +22,7 @@ none_heard = record { replies = no_replies }
 -- nothing is known of the change
 abbrev pub blank : Row
 blank =
-    record { phase = Start; change = record { department = 0; kind = 0; hour = 0; slot = 0; value = 0 }; set = record { bits = 0 }; timestamp = 0; ballot = 0; accepted = 0; promise = 0; proposals = no_proposals; acks = no_acks; recoveries = none_heard; place = 0; outcome = (0, 0) }
+    record { phase = Start; change = record { department = 0; kind = 0; hour = 0; slot = 0; value = 0 }; set = record { bits = 0 }; timestamp = 0; ballot = 0; accepted = None; promise = None; proposals = no_proposals; acks = no_acks; recoveries = none_heard; place = 0; outcome = (0, 0) }
 
 -- the phase
 abbrev pub in_phase : Phase → Row → Row
@@ -37,12 +37,12 @@ abbrev pub at_timestamp : ℕ → Row → Row
 at_timestamp t w = record w { timestamp = t }
 
 -- the ballot, and the one accepted
-abbrev pub at_ballots : ℕ → ℕ → Row → Row
+abbrev pub at_ballots : ℕ → Option ℕ → Row → Row
 at_ballots b a w = record w { ballot = b; accepted = a }
 
 -- the own promise
 abbrev pub with_promise : ℕ → Row → Row
-with_promise t w = record w { promise = t }
+with_promise t w = record w { promise = Some t }
 
 -- the replies, by kind
 abbrev pub with_replies : Replies ℕ → Acks → Replies Recovery → Row → Row

@@ -10,12 +10,12 @@ use schedule::ControllerSet;
 use std::array;
 use std::cmp::Reverse;
 
-/// What a controller replied: the timestamp and phase of its row, and the ballot at which it had accepted, 0 for none.
+/// What a controller replied: the timestamp and phase of its row, and the ballot at which it had accepted.
 #[derive(Clone, Copy, PartialEq, Eq, Debug)]
 pub struct Recovery {
     pub timestamp: u32,
     pub phase: Phase,
-    pub accepted: u32,
+    pub accepted: Option<u32>,
 }
 
 /// What each controller replied.
@@ -37,14 +37,16 @@ fn counted(reply: Option<Recovery>, j: u32, within: Option<ControllerSet>) -> Op
         .map(|reply| reply.timestamp)
 }
 
-/// A reply of controller j as an entry of the search for the first in rank.
+/// A reply of controller j that tells of an accepted ballot, as an entry of the search for the first in rank.
 fn entry(reply: Option<Recovery>, j: u32) -> Option<Accepted>
     ensures { result ≡ accepted_entry j reply }
 {
-    reply.map(|reply| Accepted {
-        ballot: Reverse(reply.accepted),
-        controller: j,
-    })
+    reply
+        .and_then(|reply| reply.accepted)
+        .map(|ballot| Accepted {
+            ballot: Reverse(ballot),
+            controller: j,
+        })
 }
 
 impl Replies<Recovery> {

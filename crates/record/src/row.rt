@@ -9,8 +9,8 @@ use crate::proposals::Proposals;
 use crate::recoveries::Recoveries;
 use schedule::{Change, ControllerSet};
 
-/// What a controller keeps of a change. `promise` is its own promise, 0 for none; `accepted` is the ballot at which it
-/// accepted `timestamp`, 0 for none. A carried-out change has its place and outcome.
+/// What a controller keeps of a change. `promise` is its own promise, and `accepted` the ballot at which it
+/// accepted `timestamp`. A carried-out change has its place and outcome.
 #[derive(Clone, Copy, PartialEq, Eq, Debug)]
 pub struct Row {
     pub phase: Phase,
@@ -18,8 +18,8 @@ pub struct Row {
     pub set: ControllerSet,
     pub timestamp: u32,
     pub ballot: u32,
-    pub accepted: u32,
-    pub promise: u32,
+    pub accepted: Option<u32>,
+    pub promise: Option<u32>,
     pub proposals: Proposals,
     pub acks: Acks,
     pub recoveries: Recoveries,
@@ -38,8 +38,8 @@ impl Row {
             set: ControllerSet::default(),
             timestamp: 0,
             ballot: 0,
-            accepted: 0,
-            promise: 0,
+            accepted: None,
+            promise: None,
             proposals: Proposals::none(),
             acks: Acks::none(),
             recoveries: Recoveries::none(),

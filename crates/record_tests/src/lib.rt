@@ -26,7 +26,7 @@ mod tests {
     }
 
     // Replies to a take-over: controller, timestamp, phase and accepted ballot.
-    fn told(replies: &[(u32, u32, Phase, u32)]) -> Recoveries {
+    fn told(replies: &[(u32, u32, Phase, Option<u32>)]) -> Recoveries {
         let mut recoveries = Recoveries::none();
         for &(controller, timestamp, phase, accepted) in replies {
             let reply = Recovery {
@@ -74,7 +74,7 @@ mod tests {
         assert_eq!(rt; acks.count(), 2);
         assert!(rt; !acks.is_new(7));
         assert!(rt; acks.is_new(2));
-        let recoveries = told(&[(2, 7, Phase::RecoverP, 0), (0, 9, Phase::RecoverP, 0)]);
+        let recoveries = told(&[(2, 7, Phase::RecoverP, None), (0, 9, Phase::RecoverP, None)]);
         assert_eq!(rt; recoveries.count(), 1);
         assert!(rt; !recoveries.is_new(2));
         assert!(rt; recoveries.is_new(1));
@@ -83,15 +83,15 @@ mod tests {
     #[test]
     fn with_no_ballot_the_fast_set_chooses(rt: HostRuntime) {
         let recoveries = told(&[
-            (2, 7, Phase::RecoverP, 0),
-            (4, 6, Phase::RecoverP, 0),
-            (5, 1, Phase::RecoverR, 0),
+            (2, 7, Phase::RecoverP, None),
+            (4, 6, Phase::RecoverP, None),
+            (5, 1, Phase::RecoverR, None),
         ]);
         assert_eq!(rt; recoveries.choice(1, &ONE_TO_FOUR), 7);
         let outside_is_later = told(&[
-            (2, 7, Phase::RecoverP, 0),
-            (4, 6, Phase::RecoverP, 0),
-            (5, 9, Phase::RecoverR, 0),
+            (2, 7, Phase::RecoverP, None),
+            (4, 6, Phase::RecoverP, None),
+            (5, 9, Phase::RecoverR, None),
         ]);
         assert_eq!(rt; outside_is_later.choice(1, &ONE_TO_FOUR), 7);
     }
@@ -99,15 +99,15 @@ mod tests {
     #[test]
     fn with_the_home_or_a_late_promise_all_choose(rt: HostRuntime) {
         let with_home = told(&[
-            (1, 6, Phase::RecoverP, 0),
-            (4, 7, Phase::RecoverP, 0),
-            (5, 9, Phase::RecoverR, 0),
+            (1, 6, Phase::RecoverP, None),
+            (4, 7, Phase::RecoverP, None),
+            (5, 9, Phase::RecoverR, None),
         ]);
         assert_eq!(rt; with_home.choice(1, &ONE_TO_FOUR), 9);
         let late_member = told(&[
-            (2, 7, Phase::RecoverP, 0),
-            (4, 8, Phase::RecoverR, 0),
-            (5, 9, Phase::RecoverR, 0),
+            (2, 7, Phase::RecoverP, None),
+            (4, 8, Phase::RecoverR, None),
+            (5, 9, Phase::RecoverR, None),
         ]);
         assert_eq!(rt; late_member.choice(1, &ONE_TO_FOUR), 9);
     }
@@ -115,15 +115,15 @@ mod tests {
     #[test]
     fn the_greatest_ballot_then_the_lowest_controller_chooses(rt: HostRuntime) {
         let one_greatest = told(&[
-            (1, 20, Phase::Propose, 0),
-            (2, 7, Phase::RecoverP, 6),
-            (4, 8, Phase::RecoverP, 9),
+            (1, 20, Phase::Propose, None),
+            (2, 7, Phase::RecoverP, Some(6)),
+            (4, 8, Phase::RecoverP, Some(9)),
         ]);
         assert_eq!(rt; one_greatest.choice(1, &ONE_TO_FOUR), 8);
         let tied = told(&[
-            (2, 7, Phase::RecoverP, 6),
-            (3, 10, Phase::RecoverP, 9),
-            (5, 8, Phase::RecoverP, 9),
+            (2, 7, Phase::RecoverP, Some(6)),
+            (3, 10, Phase::RecoverP, Some(9)),
+            (5, 8, Phase::RecoverP, Some(9)),
         ]);
         assert_eq!(rt; tied.choice(1, &ONE_TO_FOUR), 10);
     }

@@ -1,5 +1,5 @@
 -- The staged runs. Each is known by what it shows.
-use Rattle.std.specs.Prelude.{◌≡◌, ℕ, List, [], ◌∷◌, ◌++◌, replicate, Some, Ok, Option}
+use Rattle.std.specs.Prelude.{◌≡◌, ℕ, List, [], ◌∷◌, ◌++◌, replicate, Some, None, Ok, Option}
 use Rattle.schedule.specs.declared.change.Change.{Change}
 use Rattle.schedule.specs.declared.phase.Phase.TheVariants.{Payload, Propose, RecoverR, Commit}
 use Rattle.schedule.specs.declared.set.ControllerSet.{ControllerSet}
@@ -44,7 +44,7 @@ only_two = record { words = with_range no_words 2 2 }
 
 -- controller 2 of three takes over at a ballot
 abbrev pub ballot_after : ℕ → Option ℕ
-ballot_after b = answer_of (taking_over 3 2 (at_ballots b 0 (in_phase Payload blank)) (clock_at 0))
+ballot_after b = answer_of (taking_over 3 2 (at_ballots b None (in_phase Payload blank)) (clock_at 0))
 
 -- Both departments claim hour 21, sales at controller 1 and programming at controller 3. Controller 2 is in both fast sets.
 abbrev pub claim : ℕ → Change
@@ -102,15 +102,15 @@ book seconds = record { department = 1; kind = 1; hour = 20; slot = 1; value = s
 
 pub record StagedRuns : Type 0 where
   -- replies 6, 7, 11, 11: two gave the greatest, and it is committed at once
-  pub fast : seen (of_five 2 (MProposeAck 2 1 7 ∷ MProposeAck 3 1 11 ∷ MProposeAck 4 1 11 ∷ [])) ≡ shows Commit 11 0 0
+  pub fast : seen (of_five 2 (MProposeAck 2 1 7 ∷ MProposeAck 3 1 11 ∷ MProposeAck 4 1 11 ∷ [])) ≡ shows Commit 11 0 None
   pub fast_told :
       (of_five 2 (MProposeAck 2 1 7 ∷ MProposeAck 3 1 11 ∷ MProposeAck 4 1 11 ∷ [])).sent ≡ (to_others 5 1 (MCommit 1 1 11) ∷ [])
   -- replies 6, 7, 11, 6: only one gave the greatest, and it is accepted at ballot 1
-  pub slow : seen (of_five 2 (MProposeAck 2 1 7 ∷ MProposeAck 3 1 11 ∷ MProposeAck 4 1 6 ∷ [])) ≡ shows Propose 11 1 1
+  pub slow : seen (of_five 2 (MProposeAck 2 1 7 ∷ MProposeAck 3 1 11 ∷ MProposeAck 4 1 6 ∷ [])) ≡ shows Propose 11 1 (Some 1)
   pub slow_told :
       (of_five 2 (MProposeAck 2 1 7 ∷ MProposeAck 3 1 11 ∷ MProposeAck 4 1 6 ∷ [])).sent ≡ (to_others 5 1 (MConsensus 1 1 11 1) ∷ [])
   -- where one may be silent, one that gave the greatest is enough
-  pub fast_by_one : seen (of_three_in_five (MProposeAck 2 1 7 ∷ MProposeAck 3 1 11 ∷ [])) ≡ shows Commit 11 0 0
+  pub fast_by_one : seen (of_three_in_five (MProposeAck 2 1 7 ∷ MProposeAck 3 1 11 ∷ [])) ≡ shows Commit 11 0 None
   -- a clock at 1 that is asked for 6 answers 6, and 2 to 5 are detached
   pub skipped : proposal 6 (clock_at 1) ≡ Ok (6, record { time = 6; detached = record { words = 30 ∷ replicate 24 0 } })
   -- of three with {2}, {1, 2, 3} and {1, 2} the stable timestamp is 2
@@ -124,23 +124,23 @@ pub record StagedRuns : Type 0 where
   -- the claim that controller 2 gets first has the earlier timestamp, and the say
   pub first_claim_told : programming_first.sent ≡ (to_one 3 (MProposeAck 2 65 1) ∷ [])
   pub second_claim_told : sales_then.sent ≡ (to_one 1 (MProposeAck 2 1 2) ∷ [])
-  pub first_claim : seen programming_home ≡ shows Commit 1 0 0
-  pub second_claim : seen sales_home ≡ shows Commit 2 0 0
+  pub first_claim : seen programming_home ≡ shows Commit 1 0 None
+  pub second_claim : seen sales_home ≡ shows Commit 2 0 None
   pub first_claim_due : due 2 (both programming_home.row) ≡ Some 64
   pub second_claim_due : due 2 (both (finished 1 (0, 0) programming_home.row)) ≡ Some 0
   pub first_claim_holds : say_outcome order_outcome no_claims (claim 2) ≡ (0, 0)
   pub second_claim_refused : say_outcome order_outcome (say_next order_next no_claims (claim 2)) (claim 1) ≡ (8, 2)
   -- a proposal that comes after an acceptance leaves its timestamp
   pub home_asked : asked_home.sent ≡ (to_one 3 (MRecAck 1 1 1 4 0 6) ∷ [])
-  pub recovered : seen recovering ≡ shows RecoverR 1 6 6
+  pub recovered : seen recovering ≡ shows RecoverR 1 6 (Some 6)
   pub recovered_told : recovering.sent ≡ (to_others 3 3 (MConsensus 3 1 1 6) ∷ [])
-  pub late_proposal_leaves : seen late_proposal ≡ shows Payload 1 6 6
+  pub late_proposal_leaves : seen late_proposal ≡ shows Payload 1 6 (Some 6)
   -- a take-over of the slow run, without the home: the greatest of the fast set; a late consensus leaves the commit
   pub second_told : (asked_at 2 6).sent ≡ (to_one 5 (MRecAck 2 1 7 4 0 10) ∷ [])
   pub fourth_told : (asked_at 4 5).sent ≡ (to_one 5 (MRecAck 4 1 6 4 0 10) ∷ [])
-  pub taken_over : seen taken_from_slow ≡ shows RecoverR 7 10 10
+  pub taken_over : seen taken_from_slow ≡ shows RecoverR 7 10 (Some 10)
   pub taken_over_told : taken_from_slow.sent ≡ (to_others 5 5 (MConsensus 5 1 7 10) ∷ [])
-  pub late_consensus_leaves : seen committed_before ≡ shows Commit 7 0 0
+  pub late_consensus_leaves : seen committed_before ≡ shows Commit 7 0 None
   pub late_consensus_told : committed_before.sent ≡ (to_one 1 (MProposeAck 3 1 11) ∷ to_one 1 (MCommit 3 1 7) ∷ [])
   -- an hour at 700 seconds takes 20 more, and not 21
   pub books_20 : ledger_outcome at_700 (book 20) ≡ (0, 0)

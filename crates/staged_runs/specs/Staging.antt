@@ -60,11 +60,11 @@ pub record Seen : Type 0 where
   pub phase : Phase
   pub timestamp : ℕ
   pub ballot : ℕ
-  pub accepted : ℕ
+  pub accepted : Option ℕ
 
 abbrev pub seen : Desk → Seen
 seen d =
     record { phase = d.row.phase; timestamp = d.row.timestamp; ballot = d.row.ballot; accepted = d.row.accepted }
 
-abbrev pub shows : Phase → ℕ → ℕ → ℕ → Seen
+abbrev pub shows : Phase → ℕ → ℕ → Option ℕ → Seen
 shows p t b a = record { phase = p; timestamp = t; ballot = b; accepted = a }

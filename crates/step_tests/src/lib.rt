@@ -105,7 +105,7 @@ mod tests {
                 }
             )
         );
-        assert_eq!(rt; (row.ballot, row.accepted), (1, 1));
+        assert_eq!(rt; (row.ballot, row.accepted), (1, Some(1)));
         let second = Message::MConsensusAck {
             sender: 2,
             id: 1,
@@ -166,7 +166,7 @@ mod tests {
         };
         assert_eq!(rt; step(&second, &mut row, &mut clock, &proposal), Ok(None));
         assert_eq!(rt; row.phase, Phase::Payload);
-        assert_eq!(rt; (row.timestamp, row.ballot, row.accepted), (1, 6, 6));
+        assert_eq!(rt; (row.timestamp, row.ballot, row.accepted), (1, 6, Some(6)));
         Ok(())
     }
 
@@ -210,7 +210,7 @@ mod tests {
             )
         );
         assert_eq!(rt; row.phase, Phase::Commit);
-        assert_eq!(rt; (row.timestamp, row.ballot, row.accepted), (7, 0, 0));
+        assert_eq!(rt; (row.timestamp, row.ballot, row.accepted), (7, 0, None));
         Ok(())
     }
 

@@ -1,7 +1,9 @@
 -- The steps: what a message, an entry and a take-over do to the record of a change and to the clock, at controller
 -- `own` of a group of r, of which f may be silent.
 use Prim.{tt}
-use Rattle.std.specs.Prelude.{◌≡◌, ℕ, ◌+◌, Bool, cond, not, ◌&&◌, Some, None, Ok, Err, Option, Result, ◌==◌, nat_le, nat_lt}
+use Rattle.std.specs.Prelude.{◌≡◌, ℕ, ◌+◌, Bool, cond, not, ◌&&◌, Some, None, Ok, Err, Option, Result, ◌==◌, nat_eq, nat_le, nat_lt}
+use Rattle.std.specs.Bool.{then_some}
+use Rattle.std.specs.Option.{option_eq, unwrap_or}
 use Rattle.schedule.specs.Group.{slow_quorum, takeover_quorum}
 use Rattle.schedule.specs.Phases.{phase_number, phase_of, pending, settled}
 use Rattle.schedule.specs.Sets.{size, member}
@@ -59,7 +61,7 @@ committed t w = in_phase Commit (at_timestamp t w)
 
 -- t is accepted at ballot b; the clock is brought to t
 abbrev pub accepted : ℕ → ℕ → Row → Row
-accepted t b w = at_ballots b b (at_timestamp t w)
+accepted t b w = at_ballots b (Some b) (at_timestamp t w)
 
 -- t is accepted here at a ballot that belongs here, and the own acceptance is the first
 abbrev pub leading : ℕ → ℕ → ℕ → Row → Row
@@ -133,11 +135,11 @@ joining b w clock =
     (cond (w.ballot == 0 && in_phase? 2 w) (Ok (left (at_ballot b (in_phase RecoverP w)) clock tt))
     (Ok (left (at_ballot b w) clock tt)))
 
--- MRec: whoever joins tells its timestamp, its phase and the ballot at which it had accepted
+-- MRec: whoever joins tells its timestamp, its phase and the ballot at which it had accepted, 0 for none
 abbrev pub rejoined : ℕ → ℕ → ℕ → ℕ → Result (Left (Unit {0})) ClockFault → Result (Left (Option Sent)) Refusal
 rejoined own s id b (Ok done) =
     let w : Row = done.row in
-    Ok (left w done.clock (Some (to_one s (MRecAck own id w.timestamp (phase_number w.phase) w.accepted b))))
+    Ok (left w done.clock (Some (to_one s (MRecAck own id w.timestamp (phase_number w.phase) (unwrap_or w.accepted 0) b))))
 rejoined own s id b (Err fault) = Err (TimestampsSpent fault)
 
 -- after a reply to the take-over: with r − f of them the choice is accepted here
@@ -147,10 +149,10 @@ chosen r f own id b w clock =
     (asking r own id (choice (home_or_none r id) w.set.bits w.recoveries.replies) b w clock)
     (left w clock None)
 
--- MRecAck: the reply is noted, under the phase that its number stands for
+-- MRecAck: the reply is noted, under the phase that its number stands for; accepted ballot 0 is none
 abbrev pub replied : ℕ → ℕ → ℕ → ℕ → ℕ → ℕ → ℕ → ℕ → Row → Clock → Option Phase → Result (Left (Option Sent)) Refusal
 replied r f own s id t a b w clock (Some p) =
-    Ok (chosen r f own id b (with_heard s (record { timestamp = t; phase = p; accepted = a }) w) clock)
+    Ok (chosen r f own id b (with_heard s (record { timestamp = t; phase = p; accepted = then_some (not (a == 0)) a }) w) clock)
 replied r f own s id t a b w clock None = Err OutOfStep
 
 -- the commit of a settled change, for one that still asks
@@ -163,12 +165,12 @@ counts_proposal r own id s w = at_home r own id && member w.set.bits s && unhear
 
 -- An acceptance at ballot b counts: b was accepted here and belongs here, and the sender has not accepted before.
 abbrev pub counts_ack : ℕ → ℕ → ℕ → ℕ → Row → Bool
-counts_ack r own b s w = w.accepted == b && owns r own b && newcomer w.acks.from.bits s
+counts_ack r own b s w = option_eq nat_eq w.accepted (Some b) && owns r own b && newcomer w.acks.from.bits s
 
 -- A reply to the take-over at ballot b counts: nothing was accepted at b, which belongs here and is above r, and the
 -- sender has not replied.
 abbrev pub counts_recovery : ℕ → ℕ → ℕ → ℕ → Row → Bool
-counts_recovery r own b s w = not (w.accepted == b) && owns r own b && nat_lt r b && unheard w.recoveries.replies s
+counts_recovery r own b s w = not (option_eq nat_eq w.accepted (Some b)) && owns r own b && nat_lt r b && unheard w.recoveries.replies s
 
 -- what each message does; where a condition is false, it is refused
 abbrev pub step : ℕ → ℕ → ℕ → Message → Row → Clock → Result (Left (Option Sent)) Refusal

@@ -114,7 +114,7 @@ impl Turn<'_> {
     fn counts_ack(&self, ballot: u32, from: u32) -> bool
         ensures { result ≡ counts_ack self.now.site.now.figures.r self.now.site.now.own ballot from self.now.row.now }
     {
-        self.row.accepted == ballot && self.site.owns(ballot) && self.row.acks.is_new(from)
+        self.row.accepted == Some(ballot) && self.site.owns(ballot) && self.row.acks.is_new(from)
     }
 
     /// Notes an acceptance, and commits once there are enough.
@@ -154,7 +154,7 @@ impl Turn<'_> {
                 id,
                 timestamp: self.row.timestamp,
                 phase: self.row.phase.into(),
-                accepted: self.row.accepted,
+                accepted: self.row.accepted.unwrap_or(0),
                 ballot,
             },
         ))
@@ -164,7 +164,7 @@ impl Turn<'_> {
     fn counts_recovery(&self, ballot: u32, from: u32) -> bool
         ensures { result ≡ counts_recovery self.now.site.now.figures.r self.now.site.now.own ballot from self.now.row.now }
     {
-        self.row.accepted != ballot
+        self.row.accepted != Some(ballot)
             && self.site.owns(ballot)
             && ballot > self.site.figures.r
             && self.row.recoveries.is_new(from)
@@ -275,7 +275,7 @@ pub fn step(
             let told = Recovery {
                 timestamp: *timestamp,
                 phase: phase_of(*phase)?,
-                accepted: *accepted,
+                accepted: (*accepted != 0).then_some(*accepted),
             };
             Ok(turn.hear(*id, *sender, *ballot, told))
         }

@@ -49,7 +49,7 @@ impl Turn<'_> {
         ensures { Holds (promised phase t self.old.row.now) self.old.clock.now self.old self.new }
     {
         self.row.timestamp = t;
-        self.row.promise = t;
+        self.row.promise = Some(t);
         self.row.phase = phase;
     }
 
@@ -68,7 +68,7 @@ impl Turn<'_> {
     {
         self.row.timestamp = t;
         self.row.ballot = ballot;
-        self.row.accepted = ballot;
+        self.row.accepted = Some(ballot);
         self.clock.bump(t);
     }
 

@@ -27,8 +27,8 @@ mod tests {
     // Change 1 has the own promise 5, and change 65 has 4.
     fn two_promised() -> Rows {
         let mut rows = Rows::blank();
-        rows.rows[0].promise = 5;
-        rows.rows[64].promise = 4;
+        rows.rows[0].promise = Some(5);
+        rows.rows[64].promise = Some(4);
         rows
     }
 

@@ -17,10 +17,15 @@ use Rattle.schedule.specs.declared.phase.Phase.TheVariants.{CarriedOut}
 unfoldable pub blank_rows : List Row
 blank_rows = replicate most_pairs blank
 
+-- a change with its own promise, if it has one, before the pairs of those after it
+abbrev pub pair_before : ℕ → Option ℕ → List Pair → List Pair
+pair_before id None ps = ps
+pair_before id (Some t) ps = record { id = id; timestamp = t } ∷ ps
+
 -- each change that has an own promise, with it; the numbers from id on
 abbrev pub pairs_from : ℕ → List Row → List Pair
 pairs_from id [] = []
-pairs_from id (w ∷ ws) = cond (w.promise == 0) (pairs_from (suc id) ws) (record { id = id; timestamp = w.promise } ∷ pairs_from (suc id) ws)
+pairs_from id (w ∷ ws) = pair_before id w.promise (pairs_from (suc id) ws)
 
 abbrev pub own_promises : List Row → List Pair
 own_promises ws = pairs_from 1 ws

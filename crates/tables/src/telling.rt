@@ -16,12 +16,12 @@ fn put_promises(rows: &[Row; PAIRS], pairs: &mut [Pair; PAIRS]) -> usize
     ensures within { result ≤ 224 }
 {
     let mut count = 0;
-    // kept: tried with a zip of `pairs.iter_mut()`, after which a proof knows none of the pairs that were written
+    // kept: tried with a zip of `pairs.iter_mut()`, and its proof did not close.
     for (i, row) in rows.iter().enumerate() {
-        if row.promise != 0 {
+        if let Some(timestamp) = row.promise {
             pairs[count] = Pair {
                 id: i as u32 + 1,
-                timestamp: row.promise,
+                timestamp,
             };
             count += 1;
         }
