@@ -1,5 +1,5 @@
 -- A change of the day: the numbers and names of departments and kinds, and the limits of its fields.
-use Rattle.std.specs.Prelude.{ℕ, Bool, cond, ◌&&◌, List, Some, None, codes, Option, ◌==◌, nat_le, nat_lt, slice_index}
+use Rattle.std.specs.Prelude.{ℕ, Bool, cond, ◌&&◌, List, ◌++◌, Some, None, codes, decimal, Option, ◌==◌, nat_le, nat_lt, slice_index}
 use Rattle.std.specs.Str.{bytes_eq}
 use Rattle.schedule.specs.declared.change.Change.{Change}
 use Rattle.schedule.specs.declared.change.Department.{Department}
@@ -57,6 +57,13 @@ unknown n = record { 0 = n }
 -- what is answered for a name that nothing has
 abbrev pub nameless : UnknownName
 nameless = record {}
+
+-- what is said of either
+abbrev pub unknown_text : ℕ → List ℕ
+unknown_text n = codes "the number " ++ (decimal n ++ codes " stands for nothing")
+
+abbrev pub nameless_text : List ℕ
+nameless_text = codes "nothing has this name"
 
 -- a change by its numbers, in the order in which they are written
 abbrev pub change_by : List ℕ → Change

@@ -15,7 +15,7 @@ pub const SLOTS: u32 = 12;
 pub const LAST_VALUE: u32 = 999_999;
 
 /// A change as it comes from a line or a panel: its numbers may be anything.
-// kept: a department and a kind are numbers here, since what comes from a line is judged by `fits` and not before.
+// kept: a department and a kind are numbers here, since any number is held and then refused as a whole (14, or a service's 9).
 #[derive(Clone, Copy, PartialEq, Eq, Debug, Default)]
 pub struct Change {
     pub department: u32,
@@ -71,6 +71,7 @@ impl TryFrom<u32> for Department {
 
 impl Department {
     /// The department's name.
+    // kept: names stand here and in `from_str`, as those of kinds and phases do, since no macro may write an impl.
     pub fn name(&self) -> &'static str
         ensures { result.now ≡ department_name self.now }
     {
@@ -156,7 +157,7 @@ impl fmt::Display for Kind {
     ghost output = { λ kind. Some (kind_name kind) };
 
     fn fmt<W: fmt::Write>(&self, f: &mut fmt::Formatter<W>) -> fmt::Result {
-        f.write_str(self.name())
+        f.write_str(Kind::name(self))
     }
 }
 
@@ -195,6 +196,7 @@ impl From<[u32; 5]> for Change {
 
 impl Change {
     /// Whether every number is within its limits.
+    // kept: the line's `check` names the field that is outside, which this need not; both ask the same constants.
     pub fn fits(&self) -> bool
         ensures { result ≡ change_fits self.now }
     {
