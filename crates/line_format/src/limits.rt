@@ -83,7 +83,9 @@ fn phase_fits(phase: u32) -> bool
 fn set_fits(figures: &Figures, id: u32, set: &ControllerSet) -> bool
     ensures { result ≡ set_fits figures.now.r figures.now.f id set.now.bits }
 {
-    figures.home(id).is_some_and(|home| set.is_fast_set(figures, home))
+    figures
+        .home(id)
+        .is_some_and(|home| set.is_fast_set(figures, home))
 }
 
 fn detached_fits(words: &[u64; WORDS]) -> bool
@@ -138,7 +140,10 @@ fn check_entry(
 ) -> Result<(), Field>
     ensures { Refuses result (entry_checks figures.now.r figures.now.f id change.now set.now.bits) }
 {
-    within(Department::try_from(change.department).is_ok(), Field::Department)?;
+    within(
+        Department::try_from(change.department).is_ok(),
+        Field::Department,
+    )?;
     within(Kind::try_from(change.kind).is_ok(), Field::Kind)?;
     within(change.hour < HOURS, Field::Hour)?;
     within(change.slot < SLOTS, Field::Slot)?;
