@@ -1,6 +1,7 @@
 -- The limits of every field, in a group of r controllers of which f may be silent.
-use Rattle.std.specs.Prelude.{ℕ, ◌-◌, ◌*◌, ◌^◌, Bool, true, cond, not, ◌&&◌, List, [], ◌∷◌, ◌++◌, take, drop, is_some, Some, None, Option, ◌==◌, nat_le, nat_lt, slice_index}
+use Rattle.std.specs.Prelude.{◌≡◌, ℕ, ◌-◌, ◌*◌, ◌^◌, Bool, true, cond, not, ◌&&◌, List, [], ◌∷◌, ◌++◌, take, drop, is_some, Some, None, Option, Result, ◌==◌, nat_le, nat_lt, slice_index}
 use Rattle.std.specs.List.{list_all}
+use Rattle.std.specs.Result.{result_err}
 use Rattle.schedule.specs.Changes.{department_fits, kind_fits, hour_fits, slot_fits, value_fits}
 use Rattle.schedule.specs.Group.{id_fits, timestamp_fits, ballot_fits, last_timestamp, last_ballot, home}
 use Rattle.schedule.specs.Sets.{fast_set}
@@ -122,6 +123,10 @@ checks r f m = first_checks r m ++ rest_checks r f m
 abbrev pub first_unfit : List Check → Option Field
 first_unfit [] = None
 first_unfit (c ∷ cs) = cond c.fits (first_unfit cs) (Some c.field)
+
+-- an answer that refuses the first such field, if there is one
+abbrev pub Refuses : Result (Unit {0}) Field → List Check → Type 0
+Refuses answer checks = result_err answer ≡ first_unfit checks
 
 abbrev pub unfit : ℕ → ℕ → Message → Option Field
 unfit r f m = first_unfit (checks r f m)

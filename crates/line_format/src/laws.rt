@@ -1,7 +1,8 @@
 //! What holds of the line format as a whole.
 
-ghost use Rattle.std.specs.Prelude.{◌≡◌, ◌+◌, ◌≤◌, [], ◌∷◌, ◌++◌, length, drop, Ok};
+ghost use Rattle.std.specs.Prelude.{◌≡◌, ◌+◌, ◌≤◌, ◌<◌, [], ◌∷◌, ◌++◌, length, drop, Ok, Err};
 ghost use Rattle.line_format.specs.Laws.{ReadsBack, OneEncoding, NeverTwo, NoLonger, longest};
+ghost use Rattle.line_format.specs.declared.fault.LineFault.TheVariants.{ShortBuffer};
 
 use crate::fault::LineFault;
 use crate::message::Message;
@@ -24,7 +25,8 @@ pub fn longest_message(figures: &Figures) -> usize
 
 /// The commit from controller 1 of change 65 under timestamp 1, as every group writes it.
 pub fn commit_example(figures: &Figures, buffer: &mut [u8]) -> Result<usize, LineFault>
-    ensures { 2048 ≤ length buffer.old → (result ≡ Ok 16) × (buffer.new ≡ (0 ∷ 0 ∷ 0 ∷ 4 ∷ 0 ∷ 0 ∷ 0 ∷ 1 ∷ 0 ∷ 0 ∷ 0 ∷ 65 ∷ 0 ∷ 0 ∷ 0 ∷ 1 ∷ []) ++ drop 16 buffer.old) }
+    ensures written { 2048 ≤ length buffer.old → (result ≡ Ok 16) × (buffer.new ≡ (0 ∷ 0 ∷ 0 ∷ 4 ∷ 0 ∷ 0 ∷ 0 ∷ 1 ∷ 0 ∷ 0 ∷ 0 ∷ 65 ∷ 0 ∷ 0 ∷ 0 ∷ 1 ∷ []) ++ drop 16 buffer.old) }
+    ensures short { length buffer.old < 2048 → (result ≡ Err ShortBuffer) × (buffer.new ≡ buffer.old) }
 {
     write(
         figures,

@@ -2,9 +2,8 @@
 
 ghost use Rattle.std.specs.Prelude.{◌≡◌, [], ◌∷◌};
 ghost use Rattle.std.specs.Result.{result_err};
-ghost use Rattle.schedule.specs.Changes.{department_fits, kind_fits};
 ghost use Rattle.schedule.specs.Group.{timestamp_fits};
-ghost use Rattle.line_format.specs.Limits.{check, sender_check, id_check, timestamp_check, ballot_check, takeover_check, entry_checks, answer_checks, promises_checks, first_checks, rest_checks, phase_fits, set_fits, detached_fits, pair_fits, pairs_rise, unused, pairs_fit, first_unfit, unfit};
+ghost use Rattle.line_format.specs.Limits.{check, sender_check, id_check, timestamp_check, ballot_check, takeover_check, entry_checks, answer_checks, promises_checks, first_checks, rest_checks, phase_fits, set_fits, detached_fits, pair_fits, pairs_rise, unused, pairs_fit, Refuses, unfit};
 
 use crate::message::{Message, PAIRS, Pair, Promises, WORDS};
 use schedule::change::{HOURS, LAST_VALUE, SLOTS};
@@ -32,19 +31,19 @@ pub enum Field {
 
 /// Refuses a field that is outside its limits.
 fn within(fits: bool, field: Field) -> Result<(), Field>
-    ensures { result_err result ≡ first_unfit (check field fits ∷ []) }
+    ensures { Refuses result (check field fits ∷ []) }
 {
     if fits { Ok(()) } else { Err(field) }
 }
 
 fn check_sender(figures: &Figures, sender: u32) -> Result<(), Field>
-    ensures { result_err result ≡ first_unfit (sender_check figures.now.r sender ∷ []) }
+    ensures { Refuses result (sender_check figures.now.r sender ∷ []) }
 {
     within(sender >= 1 && sender <= figures.r, Field::Sender)
 }
 
 fn check_id(figures: &Figures, id: u32) -> Result<(), Field>
-    ensures { result_err result ≡ first_unfit (id_check figures.now.r id ∷ []) }
+    ensures { Refuses result (id_check figures.now.r id ∷ []) }
 {
     within(figures.home(id).is_some(), Field::Id)
 }
@@ -56,34 +55,22 @@ fn timestamp_fits(timestamp: u32) -> bool
 }
 
 fn check_timestamp(timestamp: u32) -> Result<(), Field>
-    ensures { result_err result ≡ first_unfit (timestamp_check timestamp ∷ []) }
+    ensures { Refuses result (timestamp_check timestamp ∷ []) }
 {
     within(timestamp_fits(timestamp), Field::Timestamp)
 }
 
 fn check_ballot(ballot: u32) -> Result<(), Field>
-    ensures { result_err result ≡ first_unfit (ballot_check ballot ∷ []) }
+    ensures { Refuses result (ballot_check ballot ∷ []) }
 {
     within(ballot >= 1 && ballot <= LAST_BALLOT, Field::Ballot)
 }
 
 /// A take-over's ballot is above r.
 fn check_takeover(figures: &Figures, ballot: u32) -> Result<(), Field>
-    ensures { result_err result ≡ first_unfit (takeover_check figures.now.r ballot ∷ []) }
+    ensures { Refuses result (takeover_check figures.now.r ballot ∷ []) }
 {
     within(ballot > figures.r && ballot <= LAST_BALLOT, Field::Ballot)
-}
-
-fn department_fits(department: u32) -> bool
-    ensures { result ≡ department_fits department }
-{
-    Department::try_from(department).is_ok()
-}
-
-fn kind_fits(kind: u32) -> bool
-    ensures { result ≡ kind_fits kind }
-{
-    Kind::try_from(kind).is_ok()
 }
 
 /// The phase of a change that is known and not committed.
@@ -96,10 +83,9 @@ fn phase_fits(phase: u32) -> bool
 fn set_fits(figures: &Figures, id: u32, set: &ControllerSet) -> bool
     ensures { result ≡ set_fits figures.now.r figures.now.f id set.now.bits }
 {
-    match figures.home(id) {
-        Some(home) => set.is_fast_set(figures, home),
-        None => false,
-    }
+    figures
+        .home(id)
+        .is_some_and(|home| set.is_fast_set(figures, home))
 }
 
 fn detached_fits(words: &[u64; WORDS]) -> bool
@@ -152,10 +138,13 @@ fn check_entry(
     change: &Change,
     set: &ControllerSet,
 ) -> Result<(), Field>
-    ensures { result_err result ≡ first_unfit (entry_checks figures.now.r figures.now.f id change.now set.now.bits) }
+    ensures { Refuses result (entry_checks figures.now.r figures.now.f id change.now set.now.bits) }
 {
-    within(department_fits(change.department), Field::Department)?;
-    within(kind_fits(change.kind), Field::Kind)?;
+    within(
+        Department::try_from(change.department).is_ok(),
+        Field::Department,
+    )?;
+    within(Kind::try_from(change.kind).is_ok(), Field::Kind)?;
     within(change.hour < HOURS, Field::Hour)?;
     within(change.slot < SLOTS, Field::Slot)?;
     within(change.value <= LAST_VALUE, Field::Value)?;
@@ -164,7 +153,7 @@ fn check_entry(
 
 /// What MRecAck answers of a change.
 fn check_answer(timestamp: u32, phase: u32, accepted: u32, ballot: u32) -> Result<(), Field>
-    ensures { result_err result ≡ first_unfit (answer_checks timestamp phase accepted ballot) }
+    ensures { Refuses result (answer_checks timestamp phase accepted ballot) }
 {
     check_timestamp(timestamp)?;
     within(phase_fits(phase), Field::Phase)?;
@@ -173,7 +162,7 @@ fn check_answer(timestamp: u32, phase: u32, accepted: u32, ballot: u32) -> Resul
 }
 
 fn check_promises(figures: &Figures, promises: &Promises) -> Result<(), Field>
-    ensures { result_err result ≡ first_unfit (promises_checks figures.now.r promises.now) }
+    ensures { Refuses result (promises_checks figures.now.r promises.now) }
 {
     within(detached_fits(&promises.detached), Field::Detached)?;
     within(pairs_fit(figures, promises), Field::Pairs)
@@ -182,7 +171,7 @@ fn check_promises(figures: &Figures, promises: &Promises) -> Result<(), Field>
 impl Message {
     /// Who sends it, and the change that it is about.
     fn check_first(&self, figures: &Figures) -> Result<(), Field>
-        ensures { result_err result ≡ first_unfit (first_checks figures.now.r self.now) }
+        ensures { Refuses result (first_checks figures.now.r self.now) }
     {
         match self {
             Message::MPayload { sender, id, .. }
@@ -202,7 +191,7 @@ impl Message {
 
     /// The fields after those.
     fn check_rest(&self, figures: &Figures) -> Result<(), Field>
-        ensures { result_err result ≡ first_unfit (rest_checks figures.now.r figures.now.f self.now) }
+        ensures { Refuses result (rest_checks figures.now.r figures.now.f self.now) }
     {
         match self {
             Message::MPayload {

@@ -25,7 +25,7 @@ pub struct Promises {
 }
 
 /// A message of the line. Its numbers may be anything; `check` and `unfit` say whether they are within their limits.
-// kept: a phase is a number here, since what comes on the line is held first and judged by `check`.
+// kept: a phase and an accepted ballot are numbers here, since any number of the line is held and then refused as a whole (14).
 #[derive(Clone, Copy, PartialEq, Eq, Debug)]
 pub enum Message {
     MPayload {

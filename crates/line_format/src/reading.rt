@@ -145,7 +145,7 @@ fn promises_shape(bytes: &[u8]) -> Result<Message, LineFault>
 }
 
 /// The message of a type and length, whatever its numbers.
-// kept: one arm of one value for each of the nine messages; the numbers are the types of the format.
+// kept: the numbers are the types of the format; longer than other functions, with one arm for each of nine messages.
 pub fn shape(bytes: &[u8]) -> Result<Message, LineFault>
     ensures { result ≡ shape bytes.now }
 {

@@ -72,7 +72,7 @@ impl Writer<'_> {
     }
 
     /// Puts a message, for which there is room.
-    // kept: one arm for each of the nine messages.
+    // kept: the numbers are the types of the format; longer than other functions, with one arm for each of nine messages.
     fn put_message(&mut self, message: &Message)
         requires { (count_fits message.now ≡ true) × HasRoom self.old 2004 }
         ensures { Puts self.old self.new (encode message.now) }

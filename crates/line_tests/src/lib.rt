@@ -4,13 +4,14 @@
 #[cfg(test)]
 mod tests {
     use line_format::message::{PAIRS, WORDS};
+    use line_format::writing::LEAST_BUFFER;
     use line_format::{LineFault, Message, Pair, Promises, read, write};
     use schedule::Figures;
     use std::array;
     use std::process::Abort;
     use std::test::Fail;
 
-    const LEN: usize = 2048;
+    const LEN: usize = LEAST_BUFFER;
 
     // Bytes that are read as a message are what that message is written as.
     fn judged(rt: &impl Abort, figures: &Figures, bytes: &[u8]) -> Result<(), LineFault> {
@@ -23,9 +24,9 @@ mod tests {
 
     // 0, or the number of the refusal
     // kept: a number, since the tables of cases keep their values.
-    fn number(answer: Result<(), LineFault>) -> u32 {
+    fn number<T: Drop>(answer: Result<T, LineFault>) -> u32 {
         match answer {
-            Ok(()) => 0,
+            Ok(_) => 0,
             Err(fault) => fault.number(),
         }
     }
@@ -174,8 +175,8 @@ mod tests {
         Ok(())
     }
 
-    // a message of promises from controller 1 with the given last word, count and first two pairs
-    fn promises(last: u64, count: u32, first: (u32, u32), second: (u32, u32)) -> Message {
+    // promises with the given last word, count and first two pairs
+    fn promised(last: u64, count: u32, first: (u32, u32), second: (u32, u32)) -> Promises {
         let mut detached = [0; WORDS];
         detached[0] = u64::MAX;
         detached[WORDS - 1] = last;
@@ -188,26 +189,31 @@ mod tests {
             id: second.0,
             timestamp: second.1,
         };
-        Message::MPromises {
-            sender: 1,
-            promises: Promises {
-                detached,
-                count,
-                pairs,
-            },
+        Promises {
+            detached,
+            count,
+            pairs,
         }
     }
 
-    // A message that is written reads back as itself: 0, or the number of the refusal.
-    fn written(rt: &impl Abort, figures: &Figures, message: &Message) -> u32 {
-        let mut buffer = [0xee; LEN];
-        match write(figures, message, &mut buffer) {
-            Err(fault) => fault.number(),
-            Ok(len) => {
-                assert!(rt; len <= LEN && read(figures, &buffer[..len]) == Ok(*message));
-                0
-            }
+    // a message of such promises from controller 1
+    fn promises(last: u64, count: u32, first: (u32, u32), second: (u32, u32)) -> Message {
+        Message::MPromises {
+            sender: 1,
+            promises: promised(last, count, first, second),
         }
+    }
+
+    // A message that is written reads back as itself.
+    fn read_back(rt: &impl Abort, figures: &Figures, message: &Message) -> Result<(), LineFault> {
+        let mut buffer = [0xee; LEN];
+        let len = write(figures, message, &mut buffer)?;
+        assert!(rt; len <= LEN && read(figures, &buffer[..len]) == Ok(*message));
+        Ok(())
+    }
+
+    fn written(rt: &impl Abort, figures: &Figures, message: &Message) -> u32 {
+        number(read_back(rt, figures, message))
     }
 
     #[test]
@@ -239,6 +245,39 @@ mod tests {
             written(&rt, &group, &promises(0, u32::MAX, (1, 1), none)),
             13
         );
+        Ok(())
+    }
+
+    // Ints of a message of promises from controller 1 with the upper half of its last word, its count and its first two
+    // pairs; the rest is zero.
+    fn promise_ints(upper: u32, count: u32, pairs: [u32; 4]) -> [u32; LEN / 4] {
+        let mut ints = [0; LEN / 4];
+        ints[0] = 9;
+        ints[1] = 1;
+        ints[50] = upper;
+        ints[52] = count;
+        ints[53..57].copy_from_slice(&pairs);
+        ints
+    }
+
+    #[test]
+    fn bytes_of_promises_at_the_edges_of_their_fields(rt: HostRuntime) -> Result<(), Fail> {
+        let group = Figures::new(3, 1)?;
+        let rising = [1, 1, 2, 1];
+        let cases = [
+            (promise_ints(0, 2, rising), 228, 0),
+            (promise_ints(0, 2, rising), 212, 13),
+            (promise_ints(0, 2, rising), 220, 13),
+            (promise_ints(0, 224, rising), 2004, 14),
+            (promise_ints(0, 225, rising), 2012, 13),
+            (promise_ints(0, 2, [2, 1, 2, 1]), 228, 14),
+            (promise_ints(0, 2, [2, 1, 1, 1]), 228, 14),
+            // bit 32 of the last word is the timestamp 1569
+            (promise_ints(1, 2, rising), 228, 14),
+        ];
+        for (ints, len, number) in &cases {
+            assert_eq!(rt; judged_ints(&rt, &group, &ints[..len / 4]), *number);
+        }
         Ok(())
     }
 
@@ -289,6 +328,35 @@ mod tests {
         assert!(rt; &buffer[0..16] == [0, 0, 0, 4, 0, 0, 0, 1, 0, 0, 0, 65, 0, 0, 0, 1].as_slice());
         assert!(rt; buffer[16] == 0xee && buffer[2047] == 0xee);
         Ok(())
+    }
+
+    #[test]
+    fn writing_refuses_in_its_order(rt: HostRuntime) -> Result<(), Fail> {
+        let group = Figures::new(3, 1)?;
+        let commit = |timestamp: u32| Message::MCommit {
+            sender: 1,
+            id: 65,
+            timestamp,
+        };
+        let crowded = |sender: u32| Message::MPromises {
+            sender,
+            promises: promised(0, 225, (1, 1), (0, 0)),
+        };
+        let mut buffer = [0xee; LEN];
+        assert_eq!(rt; number(write(&group, &commit(1), &mut buffer[0..2047])), 12);
+        assert_eq!(rt; number(write(&group, &commit(0), &mut buffer[0..2047])), 12);
+        assert_eq!(rt;
+            number(write(&group, &crowded(1), &mut buffer[0..2047])),
+            12
+        );
+        assert_eq!(rt; number(write(&group, &crowded(0), &mut buffer)), 13);
+        assert!(rt; buffer.iter().all(|b| *b == 0xee));
+        Ok(())
+    }
+
+    #[test]
+    fn figures_are_refused_by_their_number(rt: HostRuntime) {
+        assert!(rt; Figures::new(2, 1).is_err_and(|fault| fault.number() == 11));
     }
 
     #[test]
