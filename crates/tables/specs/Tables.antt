@@ -1,5 +1,5 @@
 -- The table of a controller's records: the record of change n stands at place n − 1.
-use Rattle.std.specs.Prelude.{ℕ, suc, ◌+◌, ◌-◌, Bool, cond, ◌&&◌, List, [], ◌∷◌, ◌++◌, length, take, drop, replicate, count_by, Some, None, Option, ◌==◌, nat_le, slice_index_or}
+use Rattle.std.specs.Prelude.{ℕ, suc, ◌-◌, Bool, cond, ◌&&◌, List, [], ◌∷◌, ◌++◌, length, take, drop, replicate, count_by, Some, None, Option, ◌==◌, nat_le, slice_index_or}
 use Rattle.line_format.specs.Limits.{most_pairs}
 use Rattle.line_format.specs.Reading.{no_pairs}
 use Rattle.line_format.specs.declared.message.Pair.{Pair}
@@ -54,9 +54,6 @@ learnt ws known p = with_pairs ws (joined known p.detached) (take p.count p.pair
 -- an entry of the search where the record is committed, and not above the stable timestamp
 abbrev pub due_entry : ℕ → ℕ → Row → Option Due
 due_entry s id w = cond (phase_number w.phase == 5 && nat_le w.timestamp s) (Some (record { timestamp = w.timestamp; id = id })) None
-
-abbrev pub due_at : ℕ → List Row → ℕ → Option Due
-due_at s ws place = due_entry s (place + 1) (slice_index_or ws place blank)
 
 abbrev pub due_from : ℕ → ℕ → List Row → List (Option Due)
 due_from s id [] = []

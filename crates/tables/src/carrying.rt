@@ -1,21 +1,18 @@
 //! The change that is due, and its record once it is carried out.
 
 ghost use Rattle.std.specs.Prelude.{◌≡◌};
-ghost use Rattle.tables.specs.Tables.{due_at, due_from, due, is_carried, carried_count, finished};
+ghost use Rattle.tables.specs.Tables.{due_entry, due_from, due, is_carried, carried_count, finished};
 
 use crate::rows::Rows;
 use line_format::message::PAIRS;
 use ranking::{Due, first_in_rank};
 use record::{Phase, Row};
-use std::array;
 
-/// The record at a place as an entry of the search for the change that is due, if it is committed and not above `stable`.
-fn due_at(rows: &[Row; PAIRS], place: usize, stable: u32) -> Option<Due>
-    ensures { result ≡ due_at stable rows.now place }
+/// A record as an entry of the search for the change that is due, if it is committed and not above `stable`.
+fn due_entry(row: &Row, id: u32, stable: u32) -> Option<Due>
+    ensures { result ≡ due_entry stable id row.now }
 {
-    let row = rows.get(place)?;
     let timestamp = row.timestamp;
-    let id = place as u32 + 1;
     (row.phase == Phase::Commit && timestamp <= stable).then_some(Due { timestamp, id })
 }
 
@@ -23,7 +20,12 @@ fn due_at(rows: &[Row; PAIRS], place: usize, stable: u32) -> Option<Due>
 fn due_entries(rows: &[Row; PAIRS], stable: u32) -> [Option<Due>; PAIRS]
     ensures { result ≡ due_from stable 1 rows.now }
 {
-    array::from_fn(|place| due_at(rows, place, stable))
+    let mut entries = [None; PAIRS];
+    // kept: `array::from_fn` was tried and proved, but the kit cannot yet write out a closure whose bound its callers answer for.
+    for (i, row) in rows.iter().enumerate() {
+        entries[i] = due_entry(row, i as u32 + 1, stable);
+    }
+    entries
 }
 
 /// Whether the change of a record was carried out.
