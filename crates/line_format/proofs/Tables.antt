@@ -1,7 +1,6 @@
--- Fields one after the other: how many there are, and each as a function of its index.
-use Rattle.std.proofs.Common.{◌≡◌, ℕ, zero, suc, ◌+◌, ◌*◌, ◌≤◌, ltb, true, false, cond, List, [], ◌∷◌, ◌++◌, length, map, replicate, refl, ap, ◌∙◌, mul-suc, add-one, zero-add, suc-add, arith}
-use Rattle.std.proofs.lemmas.Bool.Decides.{nat_tests}
-use Rattle.std.specs.List.{range_with_len}
+-- Fields one after the other: how many there are, one more at the end, and a table that is filled with them.
+use Rattle.std.proofs.Common.{◌≡◌, ℕ, zero, suc, ◌+◌, ◌*◌, ◌<◌, List, [], ◌∷◌, ◌++◌, length, get_or, drop, set, refl, ap, ◌∙◌, append_assoc, add-zero, mul-zero, mul-suc, add-one, arith}
+use Rattle.std.proofs.lemmas.List.{drop_more, set_at}
 use Rattle.line_format.specs.Fields.{fields_at}
 
 module _ {A : Type 0} (at : List ℕ → ℕ → A) (size : ℕ) (bytes : List ℕ) where
@@ -18,29 +17,21 @@ module _ {A : Type 0} (at : List ℕ → ℕ → A) (size : ℕ) (bytes : List �
   length_fields_at p zero = refl
   length_fields_at p (suc n) = ap suc (length_fields_at (p + size) n)
 
-  -- the field of each index from i on
-  pub fields_at_map : (p i n : ℕ) → map (λ k. at bytes (p + size * k)) (range_with_len i n) ≡ fields_at at size bytes (p + size * i) n
+  -- one more field at the end
+  pub fields_at_more : (p n : ℕ) → fields_at at size bytes p (n + 1) ≡ fields_at at size bytes p n ++ (at bytes (p + size * n) ∷ [])
   unfolding fields_at
-  fields_at_map p i zero = refl
-  fields_at_map p i (suc n) =
-      let e : p + size * (i + 1) ≡ p + size * i + size = rw add-one (omega (arith, mul-suc size i)) in
-      ap (λ l. at bytes (p + size * i) ∷ l) (fields_at_map p (i + 1) n ∙ ap (λ q. fields_at at size bytes q n) e)
+  fields_at_more p zero = simp (mul-zero, add-zero)
+  fields_at_more p (suc n) =
+      let e : p + size + size * n ≡ p + size * suc n = omega (arith, mul-suc size n) in
+      let more = fields_at_more (p + size) n in
+      rw (add-one, ← e) (ap (λ l. at bytes p ∷ l) (rw add-one at more))
 
--- a function up to an index, and one value from there on
-module _ {A : Type 0} (f : ℕ → A) (z : A) (count : ℕ) where
-  abbrev pub up_to : ℕ → A
-  up_to k = cond (ltb k count) (f k) z
+  -- a table whose first i places are filled, and one more
+  pub fill_none : (p : ℕ) (xs : List A) → xs ≡ fields_at at size bytes p 0 ++ xs
+  unfolding fields_at
+  fill_none p xs = refl
 
-  past : (i n : ℕ) → count ≤ i → map up_to (range_with_len i n) ≡ replicate n z
-  past i zero h = refl
-  past i (suc n) h =
-      let out : ltb i count ≡ false = grind (arith, nat_tests) in
-      let rest = past (i + 1) n (omega arith) in
-      rw out (ap (λ l. z ∷ l) rest)
-
-  pub up_to_map : (i m n : ℕ) → i + m ≡ count → map up_to (range_with_len i (m + n)) ≡ map f (range_with_len i m) ++ replicate n z
-  up_to_map i zero n h = rw zero-add (past i n (omega arith))
-  up_to_map i (suc m) n h =
-      let within : ltb i count ≡ true = grind (arith, nat_tests) in
-      let rest = up_to_map (i + 1) m n (omega arith) in
-      rw (suc-add, within) (ap (λ l. f i ∷ l) rest)
+  pub fill_more : (p i : ℕ) (xs : List A) → i < length xs → set (fields_at at size bytes p i ++ drop i xs) i (at bytes (p + size * i)) ≡ fields_at at size bytes p (i + 1) ++ drop (i + 1) xs
+  fill_more p i xs h =
+      let x = at bytes (p + size * i) in
+      rw (drop_more xs i x h) (set_at (fields_at at size bytes p i) (get_or xs i x) (drop (i + 1) xs) x i (length_fields_at p i) ∙ rw fields_at_more (simp append_assoc))

@@ -1,16 +1,15 @@
 //! Reading a message from bytes.
 
-ghost use Rattle.std.specs.Prelude.{◌≡◌, ℕ, ◌+◌, ◌*◌, ◌≤◌, List, ◌++◌, length, drop, if◌then◌else◌, nat_lt, Ok, Err};
+ghost use Rattle.std.specs.Prelude.{◌≡◌, ℕ, ◌+◌, ◌*◌, ◌≤◌, List, ◌++◌, length, drop, if◌then◌else◌, Ok, Err};
 ghost use Rattle.line_format.specs.declared.fault.LineFault.TheVariants.{Malformed};
 ghost use Rattle.line_format.specs.declared.message.Message.TheVariants.{MPromises};
 ghost use Rattle.line_format.specs.Fields.{int_at, hyper_at, pair_at, fields_at};
 ghost use Rattle.line_format.specs.Laws.{Encoded};
-ghost use Rattle.line_format.specs.Reading.{change_in, set_in, promises_in, promises_shaped, no_pair, no_pairs, shape, reading};
+ghost use Rattle.line_format.specs.Reading.{change_in, set_in, promises_in, promises_shaped, shape, reading};
 
 use crate::fault::LineFault;
 use crate::message::{Message, PAIRS, Pair, Promises, WORDS};
 use schedule::{Change, ControllerSet, Figures};
-use std::array;
 
 /// The unsigned int at a place.
 // kept: the bound stands at each reader of a place; `first_chunk` would answer an Option, unwrapped by the same bound.
@@ -72,32 +71,40 @@ fn set_in(bytes: &[u8]) -> ControllerSet
     }
 }
 
-/// The words of MPromises.
-fn words_in(bytes: &[u8]) -> [u64; WORDS]
-    requires { 208 ≤ length bytes.now }
-    ensures { result ≡ fields_at hyper_at 8 bytes.now 8 25 }
-{
-    array::from_fn(|w| hyper_at(bytes, 8 + 8 * w))
+/// A field of eight bytes: a promise word or a pair.
+trait Wide: Copy {
+    ghost found: { List ℕ → ℕ → Self };
+
+    fn get(bytes: &[u8], at: usize) -> Self
+        requires { at + 8 ≤ length bytes.now }
+        ensures { result ≡ Self.Wide.found bytes.now at };
 }
 
-/// A pair of MPromises, or past the last a pair that is not used.
-fn pair_in(bytes: &[u8], count: usize, k: usize) -> Pair
-    requires { 212 + 8 * count ≤ length bytes.now }
-    ensures { result ≡ (if nat_lt k count then pair_at bytes.now (212 + 8 * k) else no_pair) }
-{
-    if k < count {
-        pair_at(bytes, 212 + 8 * k)
-    } else {
-        Pair::default()
+impl Wide for u64 {
+    ghost found = { hyper_at };
+
+    fn get(bytes: &[u8], at: usize) -> u64 {
+        hyper_at(bytes, at)
     }
 }
 
-/// The pairs of MPromises, and then pairs that are not used.
-fn pairs_in(bytes: &[u8], count: usize) -> [Pair; PAIRS]
-    requires { (count ≤ 224) × (length bytes.now ≡ 212 + 8 * count) }
-    ensures { result ≡ fields_at pair_at 8 bytes.now 212 count ++ drop count no_pairs }
+impl Wide for Pair {
+    ghost found = { pair_at };
+
+    fn get(bytes: &[u8], at: usize) -> Pair {
+        pair_at(bytes, at)
+    }
+}
+
+/// Fills the first places of a table with the fields from a place on.
+// kept: `array::from_fn` was tried and proved, but the kit cannot yet write out a closure whose bound its callers answer for.
+fn fill<F: Wide>(bytes: &[u8], at: usize, count: usize, table: &mut [F])
+    requires { (at + 8 * count ≤ length bytes.now) × (count ≤ length table.old) }
+    ensures { table.new ≡ fields_at F.Wide.found 8 bytes.now at count ++ drop count table.old }
 {
-    array::from_fn(move |k| pair_in(bytes, count, k))
+    for i in 0..count {
+        table[i] = F::get(bytes, at + 8 * i);
+    }
 }
 
 /// The promises of MPromises, once their count is known to be small enough.
@@ -105,10 +112,17 @@ fn promises_in(bytes: &[u8], count: u32) -> Promises
     requires { (count ≡ int_at bytes.now 208) × ((count ≤ 224) × (length bytes.now ≡ 212 + 8 * count)) }
     ensures { result ≡ promises_in bytes.now }
 {
+    let mut detached = [0; WORDS];
+    fill(bytes, 8, WORDS, &mut detached);
+    let mut pairs = [Pair {
+        id: 0,
+        timestamp: 0,
+    }; PAIRS];
+    fill(bytes, 212, count as usize, &mut pairs);
     Promises {
-        detached: words_in(bytes),
+        detached,
         count,
-        pairs: pairs_in(bytes, count as usize),
+        pairs,
     }
 }
 
