@@ -50,6 +50,7 @@ fn take_line(rt: &HostRuntime, day: &mut Option<Day>, number: u64, line: &str) -
     }
 }
 
+// kept: `rt` and `number` go together to three functions, and a struct made for each line, to be taken apart at once, is no plainer.
 fn refuse(rt: &HostRuntime, number: u64, why: Misread) -> io::Result<()> {
     println!(rt; "{number}: not understood: {why}")
 }

@@ -106,6 +106,7 @@ fn done<W: fmt::Write>(f: &mut fmt::Formatter<W>, change: &Change, second: u32) 
 }
 
 /// A short name for the first number of an outcome.
+// kept: a number by a rule of the project, as outcomes are counted and told by theirs.
 pub(crate) fn outcome_name(number: u32) -> &'static str {
     match Answer::try_from(number) {
         Ok(Answer::Done) => "done",

@@ -22,7 +22,7 @@ pub record First (bs w rest : List ℕ) : Type 0 where
   pub solid : NoCharPasses is_whitespace w
   pub ends : (more : List ℕ) × EmptyOrStartsWithPassing is_whitespace rest more
 
--- the words of bs, or the first n of them where there are more
+-- the words of bs, or the first n of them where there are more (in UTF-8 text there is one such list alone)
 abbrev pub FirstWords : ℕ → List ℕ → List (List ℕ) → Type 0
 FirstWords zero bs words = words ≡ []
 FirstWords (suc n) bs [] = NoCharPasses is_not_whitespace bs

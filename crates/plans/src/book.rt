@@ -12,7 +12,7 @@ use services::{BreakLedger, FinalSay, RunningOrder, Service};
 use std::str::FromStr;
 
 /// One of the services, by what it is made of.
-// kept: each match has an arm for each type of service, since a function may not hand out a `dyn`, and a macro for two matches is no shorter.
+// kept: the matches of `carry_out`, `read` and `say` have an arm for each type of service, since a function may not hand out a `dyn`, and a macro for three is no shorter.
 #[derive(Clone, Copy)]
 pub enum Book {
     Order(RunningOrder),
@@ -76,7 +76,7 @@ impl FromStr for Book {
 
 impl Book {
     /// Who has the say of an hour, for a service under final say: 0 nobody, else the department.
-    // kept: 0 for nobody as in an outcome, since `None` says already that no final say stands here.
+    // kept: 0 for nobody as in an outcome, since an Option of an Option is no plainer.
     pub fn say(&self, hour: u32) -> Option<u32>
         ensures { result ≡ book_say (book_meaning self.now) hour }
     {
@@ -89,7 +89,7 @@ impl Book {
     }
 
     /// Who has the say below that, where final say stands over final say.
-    // kept: 0 for nobody, as in `say`.
+    // kept: 0 for nobody, since an Option of an Option is no plainer.
     pub fn inner_say(&self, hour: u32) -> Option<u32>
         ensures { result ≡ book_inner_say (book_meaning self.now) hour }
     {

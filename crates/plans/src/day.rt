@@ -21,6 +21,7 @@ pub struct Day {
 #[derive(Clone, Copy)]
 pub enum Reply {
     /// A change and its outcome.
+    // kept: an outcome is a pair of numbers by a rule of the project, as a service answers it.
     Outcome(Change, (u32, u32)),
     /// What a place holds.
     Holds(u32),

@@ -1,7 +1,8 @@
 //! What a line of a plan asks for.
 
-ghost use Rattle.std.specs.Prelude.{◌≡◌, ℕ, List};
+ghost use Rattle.std.specs.Prelude.{◌≡◌, ℕ, List, Some};
 ghost use Rattle.plans.specs.Lines.{FirstWords, asked_by, found, change_named, place_named};
+ghost use Rattle.plans.specs.Reasons.{misread_text};
 
 use crate::words::{department, kind, number};
 use schedule::Change;
@@ -97,7 +98,10 @@ fn asked_of(words: [Option<&str>; 6]) -> Result<Request, Misread>
     }
 }
 
+/// What is said to whoever wrote the line.
 impl fmt::Display for Misread {
+    ghost output = { λ why. Some (misread_text why) };
+
     fn fmt<W: fmt::Write>(&self, f: &mut fmt::Formatter<W>) -> fmt::Result {
         f.write_str(match self {
             Misread::NoService => {

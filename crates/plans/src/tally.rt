@@ -26,10 +26,11 @@ impl Tally {
     }
 
     /// Counts a change by the first number of its outcome.
-    // kept: a number, since a service answers one by a rule of the project; an index test, as at `services`' places.
+    // kept: a number, since a service answers one by a rule of the project.
     pub fn note(&mut self, outcome: u32)
         ensures { self.new.counts ≡ noted self.old.counts outcome }
     {
+        // kept: tried with `get_mut`, and after a write through it the proof knows no count.
         if outcome < OUTCOMES {
             let count = &mut self.counts[outcome as usize];
             *count = count.saturating_add(1);

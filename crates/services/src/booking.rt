@@ -11,6 +11,7 @@ use schedule::Change;
 
 impl BreakLedger {
     /// A ledger with nothing booked.
+    // kept: `new` and `read` stand alike in both makes, since each is one call.
     pub fn new() -> BreakLedger
         ensures { result.places.rows ≡ no_places }
     {

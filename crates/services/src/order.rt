@@ -16,6 +16,7 @@ pub struct RunningOrder {
 
 impl RunningOrder {
     /// An order with no item in it.
+    // kept: `new` and `read` stand alike in both makes, since each is one call.
     pub fn new() -> RunningOrder
         ensures { result.places.rows ≡ no_places }
     {

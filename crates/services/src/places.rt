@@ -16,6 +16,7 @@ pub const DAY_HOURS: usize = HOURS as usize;
 pub const HOUR_SLOTS: usize = SLOTS as usize;
 
 /// A number for each hour and slot, 0 for an empty place.
+// kept: 0 for an empty place by a rule of the project, since readings and outcomes tell it.
 #[derive(Clone, Copy)]
 pub struct Places {
     pub rows: [[u32; HOUR_SLOTS]; DAY_HOURS],
