@@ -13,7 +13,7 @@ use text_forms::number::number;
 pub const BITS: u32 = 1600;
 
 /// Detached timestamps, a bit for each.
-// kept: beside promise_words' timestamps, which end at 1568 and leave out what lies above; here all 1600 bits are read back, and a range above them is refused.
+// kept: beside promise_words' timestamps, which end at 1568 and leave out what lies above; here all 1600 bits are read back, and a range above them is refused; with the last number as a parameter only contains would be shared.
 #[derive(Clone, Copy)]
 pub struct Detached {
     pub words: [u64; WORDS],
@@ -66,7 +66,7 @@ impl Gathering for Detached {
 }
 
 /// The pairs so far; a count above what there is room for says that there were too many.
-// kept: a count beside the places, as a message's promises have it, where a count may be too great; there is no heap.
+// kept: a count beside the places, as in the message that it becomes; read takes no heap.
 #[derive(Clone, Copy)]
 pub struct Pairs {
     pub count: u32,
@@ -81,10 +81,7 @@ impl Pairs {
     {
         Pairs {
             count: 0,
-            pairs: [Pair {
-                id: 0,
-                timestamp: 0,
-            }; PAIRS],
+            pairs: [Pair::default(); PAIRS],
         }
     }
 
