@@ -84,6 +84,7 @@ impl fmt::Display for Members {
 
     fn fmt<W: fmt::Write>(&self, f: &mut fmt::Formatter<W>) -> fmt::Result {
         let set = ControllerSet { bits: self.0 };
+        // kept: a flag; a joiner of any iterator would need contracts of its own for what that yields, and be no plainer.
         let mut first = true;
         for member in 1..33u32 {
             if set.contains(member) {

@@ -151,6 +151,7 @@ impl fmt::Display for ShownDetached<'_> {
 
     fn fmt<W: fmt::Write>(&self, f: &mut fmt::Formatter<W>) -> fmt::Result {
         let detached = Detached { words: *self.0 };
+        // kept: a flag and an open range; no chain of the library yields the ranges of bits that a joiner would take.
         let mut first = true;
         let mut run = None;
         for t in 1..BITS + 2 {
@@ -199,6 +200,7 @@ impl fmt::Display for ShownPairs<'_> {
         let promises = self.0;
         let count = (promises.count as usize).min(PAIRS);
         let (used, _) = promises.pairs.split_at(count);
+        // kept: a flag, as in Members.
         let mut first = true;
         for pair in used {
             add(first, &ShownPair(pair), f)?;
