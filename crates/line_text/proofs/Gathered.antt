@@ -55,7 +55,7 @@ module _ {F A : Type 0} (adds : A → List ℕ → Option A) (g : Mut F (A × (B
       → TryFoldsItems (split_steps FindsChar (λ a b. b ≡ a)) g (branches {E = E}) (λ _ w. w ≡ None) s f a v u → Computes adds g f → v ≡ gathered adds a (pieces 44 text)
   gathered_by_turns {s} {u} text a v same more at ran computes =
       by_turns (split_steps FindsChar (λ a b. b ≡ a)) (λ t. left 44 (split_has_more t) (split_text t)) (λ t. split_pattern {P = ℕ} t ≡ 44)
-          (λ t w x p k. (k.1.0 ∙ p, at_next 44 _ _ _ _ _ _ (lit< tt) p (sym k.0) k.1.1))
-          (λ t w p k. ap (λ b. left 44 b (split_text t)) (sym k.0))
-          adds g f E s u a v at ran computes
+      (λ t w x p k. (k.1.0 ∙ p, at_next 44 _ _ _ _ _ _ (lit< tt) p (sym k.0) k.1.1))
+      (λ t w p k. ap (λ b. left 44 b (split_text t)) (sym k.0))
+      adds g f E s u a v at ran computes
       ∙ ap (gathered adds a) (begun 44 _ _ _ more same)
