@@ -1,6 +1,7 @@
 pub mod Back
 pub mod Bits
 pub mod Cuts
+pub mod Gathered
 pub mod Known
 pub mod Law
 pub mod Listed

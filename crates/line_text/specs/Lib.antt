@@ -1,3 +1,4 @@
+pub mod Faults
 pub mod Labels
 pub mod Laws
 pub mod Lists

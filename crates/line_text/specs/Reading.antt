@@ -2,6 +2,7 @@
 use Rattle.std.specs.Prelude.{ℕ, List, [], ◌∷◌, ◌++◌, map, length, drop, Ok, Err, Option, Result, slice_index}
 use Rattle.std.specs.Option.{ok_or}
 use Rattle.std.specs.Borrow.{Bor}
+use Rattle.std.specs.Slice.Iter.{iter_rest}
 use Rattle.schedule.specs.declared.change.Change.{Change}
 use Rattle.schedule.specs.declared.set.ControllerSet.{ControllerSet}
 use Rattle.line_format.specs.declared.limits.Field.{Field}
@@ -14,12 +15,17 @@ use Rattle.line_text.specs.Promises.{with_detached, no_detached, with_pair, none
 use Rattle.line_text.specs.Values.{number_of, value_in}
 use Rattle.line_text.specs.declared.fault.NotUnderstood.{NotUnderstood}
 use Rattle.line_text.specs.declared.fault.NotUnderstood.TheVariants as fault
+use Rattle.line_text.specs.declared.rest.Rest.{Rest}
 use Rattle.text_forms.specs.declared.form.Form.{Form}
 use Rattle.text_forms.specs.declared.form.Form.TheVariants as form
 
 -- the texts that words point to
 abbrev pub texts : List (Bor (List ℕ)) → List (List ℕ)
 texts ws = map (λ w. w.now) ws
+
+-- the words that are still to be read
+abbrev pub to_read : Rest → List (List ℕ)
+to_read rest = texts (iter_rest rest.words)
 
 -- first one, then what follows from it
 abbrev pub then : {A B : Type 0} → Result A NotUnderstood → (A → Result B NotUnderstood) → Result B NotUnderstood

@@ -1,5 +1,8 @@
 //! Why a line is not understood.
 
+ghost use Rattle.std.specs.Prelude.{Some};
+ghost use Rattle.line_text.specs.Faults.{not_understood_text};
+
 use crate::fields::label;
 use line_format::Field;
 use std::fmt;
@@ -18,6 +21,8 @@ pub enum NotUnderstood {
 }
 
 impl fmt::Display for NotUnderstood {
+    ghost output = { λ fault. Some (not_understood_text fault) };
+
     fn fmt<W: fmt::Write>(&self, f: &mut fmt::Formatter<W>) -> fmt::Result {
         match self {
             NotUnderstood::Name => write!(f, "no message has this name"),

@@ -14,6 +14,7 @@ use std::fmt;
 use text_forms::number::number;
 
 /// The name of a field.
+// kept: Field is line_format's, which has no text, so its Display would stand there.
 pub fn label(field: Field) -> &'static str
     ensures { result.now ≡ label field }
 {

@@ -34,12 +34,8 @@ pub(crate) fn gather<G: Gathering>(start: G, text: &str) -> Option<G>
     if text == "none" {
         return Some(start);
     }
-    // kept: a `for` with `?`; `try_fold` would put the same step into a closure, and is no plainer.
-    let mut gathered = start;
-    for piece in text.split(',') {
-        gathered = gathered.with(piece)?;
-    }
-    Some(gathered)
+    text.split(',')
+        .try_fold(start, |gathered, piece| gathered.with(piece))
 }
 
 /// Members of a set are numbers from 1 to 32.
@@ -88,6 +84,7 @@ impl fmt::Display for Members {
 
     fn fmt<W: fmt::Write>(&self, f: &mut fmt::Formatter<W>) -> fmt::Result {
         let set = ControllerSet { bits: self.0 };
+        // kept: a flag; a joiner of any iterator would need contracts of its own for what that yields, and be no plainer.
         let mut first = true;
         for member in 1..33u32 {
             if set.contains(member) {

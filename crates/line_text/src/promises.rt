@@ -13,7 +13,7 @@ use text_forms::number::number;
 pub const BITS: u32 = 1600;
 
 /// Detached timestamps, a bit for each.
-// kept: beside promise_words' timestamps, which end at 1568 and leave out what lies above; here all 1600 bits are read back, and a range above them is refused.
+// kept: beside promise_words' timestamps, which end at 1568 and leave out what lies above; here all 1600 bits are read back, and a range above them is refused; with the last number as a parameter only contains would be shared.
 #[derive(Clone, Copy)]
 pub struct Detached {
     pub words: [u64; WORDS],
@@ -66,7 +66,7 @@ impl Gathering for Detached {
 }
 
 /// The pairs so far; a count above what there is room for says that there were too many.
-// kept: a count beside the places, as a message's promises have it, where a count may be too great; there is no heap.
+// kept: a count beside the places, as in the message that it becomes; read takes no heap.
 #[derive(Clone, Copy)]
 pub struct Pairs {
     pub count: u32,
@@ -81,10 +81,7 @@ impl Pairs {
     {
         Pairs {
             count: 0,
-            pairs: [Pair {
-                id: 0,
-                timestamp: 0,
-            }; PAIRS],
+            pairs: [Pair::default(); PAIRS],
         }
     }
 
@@ -154,6 +151,7 @@ impl fmt::Display for ShownDetached<'_> {
 
     fn fmt<W: fmt::Write>(&self, f: &mut fmt::Formatter<W>) -> fmt::Result {
         let detached = Detached { words: *self.0 };
+        // kept: a flag and an open range; no chain of the library yields the ranges of bits that a joiner would take.
         let mut first = true;
         let mut run = None;
         for t in 1..BITS + 2 {
@@ -202,6 +200,7 @@ impl fmt::Display for ShownPairs<'_> {
         let promises = self.0;
         let count = (promises.count as usize).min(PAIRS);
         let (used, _) = promises.pairs.split_at(count);
+        // kept: a flag, as in Members.
         let mut first = true;
         for pair in used {
             add(first, &ShownPair(pair), f)?;

@@ -1,9 +1,8 @@
 //! Reading a message from its words.
 
 ghost use Rattle.std.specs.Prelude.{◌≡◌, IfOk};
-ghost use Rattle.std.specs.Slice.Iter.{iter_rest};
 ghost use Rattle.line_text.specs.Lists.{words};
-ghost use Rattle.line_text.specs.Reading.{texts, entry, payload, propose, propose_ack, commit, consensus, consensus_ack, recover, recover_ack, promises, by_form, said};
+ghost use Rattle.line_text.specs.Reading.{texts, to_read, entry, payload, propose, propose_ack, commit, consensus, consensus_ack, recover, recover_ack, promises, by_form, said};
 
 use crate::fault::NotUnderstood;
 use crate::promises::{Detached, Pairs};
@@ -51,7 +50,7 @@ fn entry(numbers: [u32; 8]) -> (u32, u32, Change, ControllerSet)
 }
 
 fn payload(rest: Rest) -> Result<Message, NotUnderstood>
-    ensures { result ≡ payload (texts (iter_rest rest.entry.words)) }
+    ensures { result ≡ payload (to_read rest.entry) }
 {
     let (sender, id, change, set) = entry(rest.all(&ENTRY)?);
     Ok(Message::MPayload {
@@ -63,7 +62,7 @@ fn payload(rest: Rest) -> Result<Message, NotUnderstood>
 }
 
 fn propose(mut rest: Rest) -> Result<Message, NotUnderstood>
-    ensures { result ≡ propose (texts (iter_rest rest.entry.words)) }
+    ensures { result ≡ propose (to_read rest.entry) }
 {
     let (sender, id, change, set) = entry(rest.numbers(&ENTRY)?);
     let timestamp = rest.number(Field::Timestamp)?;
@@ -78,7 +77,7 @@ fn propose(mut rest: Rest) -> Result<Message, NotUnderstood>
 }
 
 fn propose_ack(rest: Rest) -> Result<Message, NotUnderstood>
-    ensures { result ≡ propose_ack (texts (iter_rest rest.entry.words)) }
+    ensures { result ≡ propose_ack (to_read rest.entry) }
 {
     let [sender, id, timestamp] = rest.all(&[Field::Sender, Field::Id, Field::Timestamp])?;
     Ok(Message::MProposeAck {
@@ -89,7 +88,7 @@ fn propose_ack(rest: Rest) -> Result<Message, NotUnderstood>
 }
 
 fn commit(rest: Rest) -> Result<Message, NotUnderstood>
-    ensures { result ≡ commit (texts (iter_rest rest.entry.words)) }
+    ensures { result ≡ commit (to_read rest.entry) }
 {
     let [sender, id, timestamp] = rest.all(&[Field::Sender, Field::Id, Field::Timestamp])?;
     Ok(Message::MCommit {
@@ -100,7 +99,7 @@ fn commit(rest: Rest) -> Result<Message, NotUnderstood>
 }
 
 fn consensus(rest: Rest) -> Result<Message, NotUnderstood>
-    ensures { result ≡ consensus (texts (iter_rest rest.entry.words)) }
+    ensures { result ≡ consensus (to_read rest.entry) }
 {
     let [sender, id, timestamp, ballot] = rest.all(&[
         Field::Sender,
@@ -117,21 +116,21 @@ fn consensus(rest: Rest) -> Result<Message, NotUnderstood>
 }
 
 fn consensus_ack(rest: Rest) -> Result<Message, NotUnderstood>
-    ensures { result ≡ consensus_ack (texts (iter_rest rest.entry.words)) }
+    ensures { result ≡ consensus_ack (to_read rest.entry) }
 {
     let [sender, id, ballot] = rest.all(&[Field::Sender, Field::Id, Field::Ballot])?;
     Ok(Message::MConsensusAck { sender, id, ballot })
 }
 
 fn recover(rest: Rest) -> Result<Message, NotUnderstood>
-    ensures { result ≡ recover (texts (iter_rest rest.entry.words)) }
+    ensures { result ≡ recover (to_read rest.entry) }
 {
     let [sender, id, ballot] = rest.all(&[Field::Sender, Field::Id, Field::Ballot])?;
     Ok(Message::MRec { sender, id, ballot })
 }
 
 fn recover_ack(rest: Rest) -> Result<Message, NotUnderstood>
-    ensures { result ≡ recover_ack (texts (iter_rest rest.entry.words)) }
+    ensures { result ≡ recover_ack (to_read rest.entry) }
 {
     let [sender, id, timestamp, phase, accepted, ballot] = rest.all(&[
         Field::Sender,
@@ -153,7 +152,7 @@ fn recover_ack(rest: Rest) -> Result<Message, NotUnderstood>
 
 #[tactic(auto, unfolding(crate::specs::Promises::no_words))]
 fn promises(mut rest: Rest) -> Result<Message, NotUnderstood>
-    ensures { result ≡ promises (texts (iter_rest rest.entry.words)) }
+    ensures { result ≡ promises (to_read rest.entry) }
 {
     let sender = rest.number(Field::Sender)?;
     let detached = rest
@@ -173,7 +172,7 @@ fn promises(mut rest: Rest) -> Result<Message, NotUnderstood>
 
 /// The message of a form.
 fn message(form: Form, rest: Rest) -> Result<Message, NotUnderstood>
-    ensures { result ≡ by_form form (texts (iter_rest rest.entry.words)) }
+    ensures { result ≡ by_form form (to_read rest.entry) }
 {
     match form {
         Form::MPayload => payload(rest),

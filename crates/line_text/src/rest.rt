@@ -1,8 +1,7 @@
 //! The words of a line that are still to be read, field by field.
 
 ghost use Rattle.std.specs.Prelude.{◌≡◌, drop, length, OnOk};
-ghost use Rattle.std.specs.Slice.Iter.{iter_rest};
-ghost use Rattle.line_text.specs.Reading.{texts, value_first, number_first, numbers_first, numbers_all, listed_first, ended};
+ghost use Rattle.line_text.specs.Reading.{to_read, value_first, number_first, numbers_first, numbers_all, listed_first, ended};
 ghost use Rattle.line_text.specs.Values.{told};
 
 use crate::fault::NotUnderstood;
@@ -13,15 +12,15 @@ use std::slice;
 
 /// The words that are still to be read.
 #[derive(Drop)]
-pub struct Rest<'a, 'b> {
+pub(crate) struct Rest<'a, 'b> {
     pub words: slice::Iter<'a, &'b str>,
 }
 
 impl<'a, 'b> Rest<'a, 'b> {
     /// The value of the field that should come next.
     fn value(&mut self, field: Field) -> Result<&'b str, NotUnderstood>
-        ensures given { told (λ x. x.now) result ≡ value_first field (texts (iter_rest self.old.words)) }
-        ensures left { texts (iter_rest self.new.words) ≡ drop 1 (texts (iter_rest self.old.words)) }
+        ensures given { told (λ x. x.now) result ≡ value_first field (to_read self.old) }
+        ensures left { to_read self.new ≡ drop 1 (to_read self.old) }
     {
         let Some(word) = self.words.next() else {
             return Err(NotUnderstood::Expected(field));
@@ -32,8 +31,8 @@ impl<'a, 'b> Rest<'a, 'b> {
     /// The number of the field that should come next.
     #[tactic(auto, unfolding(crate::specs::Reading::number_first))]
     pub(crate) fn number(&mut self, field: Field) -> Result<u32, NotUnderstood>
-        ensures given { result ≡ number_first field (texts (iter_rest self.old.words)) }
-        ensures left { texts (iter_rest self.new.words) ≡ drop 1 (texts (iter_rest self.old.words)) }
+        ensures given { result ≡ number_first field (to_read self.old) }
+        ensures left { to_read self.new ≡ drop 1 (to_read self.old) }
     {
         let value = self.value(field)?;
         number_of(field, value).ok_or(NotUnderstood::Value(field))
@@ -44,8 +43,8 @@ impl<'a, 'b> Rest<'a, 'b> {
         &mut self,
         fields: &[Field; N],
     ) -> Result<[u32; N], NotUnderstood>
-        ensures given { result ≡ numbers_first fields.now (texts (iter_rest self.old.words)) }
-        ensures left { OnOk result (texts (iter_rest self.new.words) ≡ drop (length fields.now) (texts (iter_rest self.old.words))) }
+        ensures given { result ≡ numbers_first fields.now (to_read self.old) }
+        ensures left { OnOk result (to_read self.new ≡ drop (length fields.now) (to_read self.old)) }
     {
         let mut numbers = [0; N];
         // kept: tried `iter_mut().zip(fields)`, where no proof knows what was written through the adapter, and `array::try_from_fn`, whose bound on memory stays open at any N.
@@ -58,8 +57,8 @@ impl<'a, 'b> Rest<'a, 'b> {
     /// What the list in the field that should come next adds to what is there.
     #[tactic(auto, unfolding(crate::specs::Reading::listed_first))]
     pub(crate) fn list<G: Gathering>(&mut self, field: Field, start: G) -> Result<G, NotUnderstood>
-        ensures given { result ≡ listed_first G.Gathering.adds start field (texts (iter_rest self.old.words)) }
-        ensures left { texts (iter_rest self.new.words) ≡ drop 1 (texts (iter_rest self.old.words)) }
+        ensures given { result ≡ listed_first G.Gathering.adds start field (to_read self.old) }
+        ensures left { to_read self.new ≡ drop 1 (to_read self.old) }
     {
         let value = self.value(field)?;
         gather(start, value).ok_or(NotUnderstood::Value(field))
@@ -67,7 +66,7 @@ impl<'a, 'b> Rest<'a, 'b> {
 
     /// No word is left.
     pub(crate) fn end(&self) -> Result<(), NotUnderstood>
-        ensures { result ≡ ended (texts (iter_rest self.now.words)) tt }
+        ensures { result ≡ ended (to_read self.now) tt }
     {
         if self.words.as_slice().is_empty() {
             Ok(())
@@ -82,7 +81,7 @@ impl<'a, 'b> Rest<'a, 'b> {
         mut self,
         fields: &[Field; N],
     ) -> Result<[u32; N], NotUnderstood>
-        ensures { result ≡ numbers_all fields.now (texts (iter_rest self.entry.words)) }
+        ensures { result ≡ numbers_all fields.now (to_read self.entry) }
     {
         let numbers = self.numbers(fields)?;
         self.end()?;

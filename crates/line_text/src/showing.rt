@@ -50,6 +50,7 @@ struct Fields<'a>(&'a Message);
 impl fmt::Display for Fields<'_> {
     ghost output = { λ fields. Some (fields_text fields.0.now) };
 
+    // kept: one arm of one row of fields for each of nine messages, longer than other functions.
     fn fmt<W: fmt::Write>(&self, f: &mut fmt::Formatter<W>) -> fmt::Result {
         match self.0 {
             Message::MPayload {

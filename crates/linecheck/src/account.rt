@@ -4,10 +4,13 @@ use line_format::{LineFault, Message};
 use std::fmt;
 use text_forms::Form;
 
+/// How many forms a message has.
+const KINDS: usize = 9;
+
 /// How many messages of each form were read, how many were written, and how many lines came to nothing.
 #[derive(Clone, Copy)]
 pub struct Account {
-    read: [u64; 9],
+    read: [u64; KINDS],
     written: u64,
     malformed: u64,
     outside: u64,
@@ -15,7 +18,7 @@ pub struct Account {
 }
 
 /// The forms in the order of their types, each at its place in the count.
-const FORMS: [Form; 9] = [
+const FORMS: [Form; KINDS] = [
     Form::MPayload,
     Form::MPropose,
     Form::MProposeAck,
@@ -30,7 +33,7 @@ const FORMS: [Form; 9] = [
 impl Account {
     pub(crate) fn new() -> Account {
         Account {
-            read: [0; 9],
+            read: [0; KINDS],
             written: 0,
             malformed: 0,
             outside: 0,

@@ -1,6 +1,7 @@
 //! What the bench answers to a line, and the account that it keeps.
 
 use crate::account::Account;
+use line_format::writing::LEAST_BUFFER;
 use line_format::{LineFault, Message, read, shape, write};
 use line_text::fields::label;
 use line_text::reading;
@@ -10,14 +11,11 @@ use std::alloc::{AllocError, Global};
 use std::fmt;
 use text_forms::hexadecimal::{bytes, is_hexadecimal, show_bytes};
 
-/// The bytes of an outgoing buffer.
-const BUFFER: usize = 2048;
-
 /// The figures of the group, the buffer that messages are written to, and the account.
 #[derive(Drop)]
 pub struct Bench {
     figures: Figures,
-    buffer: [u8; BUFFER],
+    buffer: [u8; LEAST_BUFFER],
     account: Account,
 }
 
@@ -30,7 +28,7 @@ impl Bench {
     pub(crate) fn new(figures: Figures) -> Bench {
         Bench {
             figures,
-            buffer: [0; BUFFER],
+            buffer: [0; LEAST_BUFFER],
             account: Account::new(),
         }
     }

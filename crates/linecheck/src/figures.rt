@@ -17,10 +17,13 @@ pub enum NoFigures {
 impl fmt::Display for NoFigures {
     fn fmt<W: fmt::Write>(&self, f: &mut fmt::Formatter<W>) -> fmt::Result {
         match self {
-            NoFigures::NotTwoNumbers => write!(
-                f,
-                "refused 11 (the first line is not two numbers, R F)"
-            ),
+            NoFigures::NotTwoNumbers => {
+                let number = FiguresFault::OutsideLimits.number();
+                write!(
+                    f,
+                    "refused {number} (the first line is not two numbers, R F)"
+                )
+            }
             NoFigures::Refused(fault) => {
                 let number = fault.number();
                 write!(

@@ -29,7 +29,7 @@ pub fn bytes(heap: Global, text: &str) -> Result<Option<Vec<u8>>, AllocError>
 {
     let mut bytes = Vec::new(heap);
     let mut high = None;
-    // kept: a `for`; a fold would carry the bytes and the digit that waits for its second, allocate, and stop in two ways.
+    // kept: try_fold would carry the bytes and the waiting digit, and stop for two reasons.
     for c in text.as_bytes() {
         if *c == b' ' {
             continue;
@@ -67,6 +67,7 @@ pub fn show_bytes(bytes: &[u8], out: &mut String) -> fmt::Result
     ensures shown { OnOk result (string_bytes out.new ≡ string_bytes out.old ++ bytes_text bytes.now) }
     ensures back { BytesBack }
 {
+    // kept: an index; chunks(4) would take a loop in a loop, and still count for the space before all but the first.
     for (i, byte) in bytes.iter().enumerate() {
         show_byte(i > 0 && i % 4 == 0, *byte, out)?;
     }
