@@ -21,6 +21,7 @@ pub enum ClockFault {
 }
 
 impl ClockFault {
+    // kept: a refusal has a number, and nothing is made of a number; each type of refusal maps its own cases.
     /// The number of this refusal.
     pub fn number(&self) -> u32
         ensures { result ≡ fault_number self.now }

@@ -6,6 +6,7 @@ ghost use Rattle.std.proofs.Common.{rules};
 use crate::rank::Ranked;
 use std::cmp::Reverse;
 
+// kept: ballot 0 is none, and is no entry by `is_eligible`, since a reply may tell of ballot 0.
 /// A controller's reply: the greatest accepted ballot first, then the lowest controller. Ballot 0 is none.
 #[derive(Clone, Copy, PartialEq, Eq, PartialOrd, Ord, Debug)]
 pub struct Accepted {

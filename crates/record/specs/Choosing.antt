@@ -22,7 +22,7 @@ accepted_entry j x = option_map (λ b. record { ballot = record { 0 = b }; contr
 abbrev pub accepted_entries : List (Option Recovery) → List (Option Accepted)
 accepted_entries rs = map (λ i. accepted_entry (i + 1) (slice_index_or rs i None)) (range_with_len 0 seats)
 
--- j replied and is in the fast set, and is the home or was in phase recover-r
+-- j replied and is in the fast set, and is the home or was in phase recover-r (3)
 abbrev pub late : ℕ → ℕ → ℕ → Option Recovery → Bool
 late h members j x = option_map_or (λ y. member members j && (j == h || phase_number y.phase == 3)) x false
 

@@ -20,7 +20,7 @@ impl Acks {
         ensures { result.from.bits ≡ 0 }
     {
         Acks {
-            from: ControllerSet { bits: 0 },
+            from: ControllerSet::default(),
         }
     }
 

@@ -27,6 +27,7 @@ fn is_awaited(set: &ControllerSet, j: u32, reply: Option<u32>) -> bool
 }
 
 impl Replies<u32> {
+    // kept: a number, of which 0 is no reply, since the definition of `step` holds for any message, with timestamp 0 too.
     /// Notes the timestamp that a controller replied; 0 is no reply.
     pub fn note_timestamp(&mut self, controller: u32, timestamp: u32)
         ensures { self.new.replies ≡ with_timestamp self.old.replies controller timestamp }

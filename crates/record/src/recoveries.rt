@@ -76,6 +76,7 @@ impl Replies<Recovery> {
             .max()
     }
 
+    // kept: home and set together, as in the rule of the choice; a row holds its set, and the home comes from the change's number.
     /// The timestamp that the replies leave to choose.
     pub fn choice(&self, home: u32, set: &ControllerSet) -> u32
         ensures { result ≡ choice home set.now.bits self.now.replies }
@@ -88,6 +89,7 @@ impl Replies<Recovery> {
         } else {
             Some(*set)
         };
+        // kept: 0 where no reply counts, since the definition of `step` holds for any record, and accepts what is chosen.
         self.greatest_counted(within).unwrap_or(0)
     }
 }

@@ -54,6 +54,7 @@ impl<T: Copy> Replies<T> {
     pub fn is_new(&self, controller: u32) -> bool
         ensures { result ≡ unheard self.now.replies controller }
     {
+        // kept: a `match`; tried with `is_some_and`, and the goal stays open.
         match seat(controller) {
             Some(i) => self.replies[i].is_none(),
             None => false,

@@ -17,13 +17,16 @@ pub struct Row {
     pub change: Change,
     pub set: ControllerSet,
     pub timestamp: u32,
+    // kept: 0 for none, which is below all ballots: every test compares it, and with an Option it would compare with Some(b).
     pub ballot: u32,
     pub accepted: Option<u32>,
     pub promise: Option<u32>,
     pub proposals: Proposals,
     pub acks: Acks,
     pub recoveries: Recoveries,
+    // kept: 0 before; place and outcome are read only in phase carried out, so the phase says whether there are any.
     pub place: u32,
+    // kept: an outcome is a pair of numbers by a rule of the project, as a service answers it.
     pub outcome: (u32, u32),
 }
 

@@ -35,7 +35,7 @@ pub record Called (A : Type 0) : Type 0 where
 abbrev called : {A : Type 0} → Core → A → List Sent → Called A
 called core a sent = record { core = core; answer = a; sent = sent }
 
--- a call with an outgoing buffer of n bytes
+-- a call with an outgoing buffer of n bytes: refused with 12, before any other test, where they are too few
 abbrev pub buffered : {A : Type 0} → ℕ → Result A Refusal → Result A Refusal
 buffered n result = cond (nat_lt n least_buffer) (Err (Line ShortBuffer)) result
 
@@ -47,6 +47,8 @@ entered_as core c set id (Ok done) =
     (to_rest own set.bits (MPropose own id c set done.answer) ∷ to_outsiders core.site.figures.r set.bits (MPayload own id c set) ∷ []))
 entered_as core c set id (Err why) = Err why
 
+-- Refused with 12 for the buffer, with 14 for a change that does not fit or a set that is no fast set here, with 17 where
+-- all changes were entered, and with 19 where the next timestamp is past the last one.
 abbrev pub enter : Core → Change → ControllerSet → ℕ → Result (Called ℕ) Refusal
 enter core c set n =
     let own : ℕ = core.site.own in
@@ -86,10 +88,13 @@ take_in core (MRec s id b) = step_on core id (MRec s id b)
 take_in core (MRecAck s id t p a b) = step_on core id (MRecAck s id t p a b)
 take_in core (MPromises s p) = Ok (called (hear_promises core s p) 0 [])
 
+-- Refused with 13 or 14 for what `reading` found, with 15 for a sender that may not send this, and then as `step` refuses:
+-- with 16, or with 19 past the last timestamp.
 abbrev pub received : Core → Result Message LineFault → Result (Called ℕ) Refusal
 received core (Err fault) = Err (Line fault)
 received core (Ok m) = cond (rightful core.site.figures.r core.site.own m) (take_in core m) (Err WrongSender)
 
+-- the same; refused with 12 for the buffer
 abbrev pub deliver : Core → List ℕ → ℕ → Result (Called ℕ) Refusal
 deliver core bytes n = buffered n (received core (reading core.site.figures.r core.site.figures.f bytes))
 
@@ -100,13 +105,14 @@ taken_over core id (Ok done) =
     Ok (called (with_row id done.row done.clock core) done.answer (to_others core.site.figures.r own (MRec own id done.answer) ∷ []))
 taken_over core id (Err why) = Err why
 
+-- Refused with 12 for the buffer, with 14 for a number of no change, and then as `taking_over` refuses: with 16, 18 or 19.
 abbrev pub take_over : Core → ℕ → ℕ → Result (Called ℕ) Refusal
 take_over core id n =
     buffered n
     (cond (not (id_fits core.site.figures.r id)) (Err (Line OutsideLimits))
     (taken_over core id (taking_over core.site.figures.r core.site.own (row_of core id) core.clock)))
 
--- Tell. The answer is 0, and MPromises goes to all and to itself.
+-- Tell. The answer is 0, and MPromises goes to all and to itself. Refused with 12 for the buffer, and for nothing else.
 abbrev pub tell : Core → ℕ → Result (Called ℕ) Refusal
 tell core n =
     let own : ℕ = core.site.own in
@@ -121,7 +127,7 @@ pub record Carried : Type 0 where
   pub outcome : ℕ × ℕ
 
 -- Carry out, over a service with the given functions of state and change, at the given state. The state after it
--- stands beside what it leaves.
+-- stands beside what it leaves. Refused with 20 where no change is due, and for nothing else.
 abbrev pub carried_at : {S : Type 0} → (S → Change → S) → (S → Change → ℕ × ℕ) → Core → S → Option ℕ → Result (Called Carried × S) Refusal
 carried_at next outcome core s None = Err NothingDue
 carried_at next outcome core s (Some at) =

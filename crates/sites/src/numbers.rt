@@ -37,7 +37,7 @@ impl Site {
     pub fn home(&self, id: u32) -> u32
         ensures { result ≡ home_or_none self.now.figures.r id }
     {
-        // kept: the one caller puts 0 for none, so an Option would only move `unwrap_or(0)` there
+        // kept: 0 is no controller, so the choice compares numbers; with an Option it would compare with Some(j), no plainer.
         self.figures.home(id).unwrap_or(0)
     }
 

@@ -26,6 +26,7 @@ pub enum Refusal {
 }
 
 impl Refusal {
+    // kept: a refusal has a number, and nothing is made of a number; each type of refusal maps its own cases.
     /// The number of this refusal.
     pub fn number(&self) -> u32
         ensures { result ≡ refusal_number self.now }

@@ -24,7 +24,7 @@ pub fn just(controller: u32) -> ControllerSet
             bits: 1 << (controller - 1),
         }
     } else {
-        ControllerSet { bits: 0 }
+        ControllerSet::default()
     }
 }
 

@@ -44,6 +44,7 @@ Settled (Ok done) row clock answer row_after clock_after =
     (answer ≡ Ok done.answer) × (row_after ≡ done.row) × (clock_after ≡ done.clock)
 Settled (Err why) row clock answer row_after clock_after = (answer ≡ Err why) × (row_after ≡ row) × (clock_after ≡ clock)
 
+-- The phase has the number n: 0 is start, 1 payload, 2 propose.
 abbrev pub in_phase? : ℕ → Row → Bool
 in_phase? n w = phase_number w.phase == n
 
@@ -51,15 +52,15 @@ in_phase? n w = phase_number w.phase == n
 abbrev pub known : Change → ControllerSet → Row → Row
 known c set w = in_phase Payload (with_change c set w)
 
--- t is promised, on a proposal
+-- t is promised, and the phase becomes p
 abbrev pub promised : Phase → ℕ → Row → Row
 promised p t w = in_phase p (with_promise t (at_timestamp t w))
 
--- t is committed; the clock is brought to t
+-- t is committed; the clock goes to t beside it (bumped)
 abbrev pub committed : ℕ → Row → Row
 committed t w = in_phase Commit (at_timestamp t w)
 
--- t is accepted at ballot b; the clock is brought to t
+-- t is accepted at ballot b; the clock goes to t beside it (bumped)
 abbrev pub accepted : ℕ → ℕ → Row → Row
 accepted t b w = at_ballots b (Some b) (at_timestamp t w)
 
@@ -97,7 +98,7 @@ proposed own s id (Err fault) = Err (TimestampsSpent fault)
 abbrev pub followed : ℕ → ℕ → ℕ → ℕ → ℕ → Row → Clock → Left (Option Sent)
 followed own s id t b w clock = left (accepted t b w) (bumped t clock) (Some (to_one s (MConsensusAck own id b)))
 
--- t is committed, and the others are told
+-- t is committed, the clock goes to t, and the others are told
 abbrev pub settling : ℕ → ℕ → ℕ → ℕ → Row → Clock → Left (Option Sent)
 settling r own id t w clock = left (committed t w) (bumped t clock) (Some (to_others r own (MCommit own id t)))
 
@@ -172,34 +173,48 @@ counts_ack r own b s w = option_eq nat_eq w.accepted (Some b) && owns r own b &&
 abbrev pub counts_recovery : ℕ → ℕ → ℕ → ℕ → Row → Bool
 counts_recovery r own b s w = not (option_eq nat_eq w.accepted (Some b)) && owns r own b && nat_lt r b && unheard w.recoveries.replies s
 
--- what each message does; where a condition is false, it is refused
+-- What each message does. Out of step is refusal 16, and a timestamp past the last one refusal 19. A pending phase is one of
+-- 1 to 4 (payload, propose, recover-r, recover-p), and a settled one 5 or 6 (commit, carried out).
 abbrev pub step : ℕ → ℕ → ℕ → Message → Row → Clock → Result (Left (Option Sent)) Refusal
+-- In phase start (0), at any ballot, outside the fast set: the change becomes known. Else out of step.
 step r f own (MPayload s id c set) w clock =
     cond (in_phase? 0 w && not (member set.bits own)) (Ok (left (known c set w) clock None)) (Err OutOfStep)
+-- In phase start (0), in the fast set: at ballot 0 the next timestamp not below t is promised and replied, or it is past the
+-- last one (19); at any other ballot the change becomes known, and no more. Else out of step.
 step r f own (MPropose s id c set t) w clock =
     cond (in_phase? 0 w && member set.bits own)
     (cond (w.ballot == 0) (proposed own s id (offered c set t w clock)) (Ok (left (known c set w) clock None)))
     (Err OutOfStep)
+-- In phase propose (2), at ballot 0, where the reply counts: it is noted, and the last of the fast set decides. Else out of step.
 step r f own (MProposeAck s id t) w clock =
     cond (in_phase? 2 w && w.ballot == 0 && counts_proposal r own id s w)
     (Ok (gathered r f own id (with_proposal s t w) clock))
     (Err OutOfStep)
+-- In a pending phase, at any ballot: t is committed. Else out of step.
 step r f own (MCommit s id t) w clock = cond (pending w.phase) (Ok (left (committed t w) (bumped t clock) None)) (Err OutOfStep)
+-- In a settled phase, at any ballot: the commit is told. In phase start (0) or a pending one, at a ballot up to b: t is accepted
+-- at b, and the sender is told. Else out of step.
 step r f own (MConsensus s id t b) w clock =
     cond (settled w.phase) (Ok (left w clock (told_commit own s id w)))
     (cond (nat_le w.ballot b) (Ok (followed own s id t b w clock)) (Err OutOfStep))
+-- In a pending phase, at ballot b, where the acceptance counts: it is noted, and commits once there are enough. Else out of step.
 step r f own (MConsensusAck s id b) w clock =
     cond (pending w.phase && w.ballot == b && counts_ack r own b s w)
     (Ok (backed r f own id (with_ack s w) clock))
     (Err OutOfStep)
+-- In a settled phase, at any ballot: the commit is told. In a pending one, at a ballot below b: b is joined, and the sender is
+-- told what was promised or accepted; a promise may be past the last timestamp (19). Else out of step.
 step r f own (MRec s id b) w clock =
     cond (settled w.phase) (Ok (left w clock (told_commit own s id w)))
     (cond (pending w.phase && nat_lt w.ballot b) (rejoined own s id b (joining b w clock))
     (Err OutOfStep))
+-- In a pending phase, at ballot b, where the reply counts and p is the number of a phase: it is noted, and with enough of them
+-- the choice is accepted at b. Else out of step.
 step r f own (MRecAck s id t p a b) w clock =
     cond (pending w.phase && w.ballot == b && counts_recovery r own b s w)
     (replied r f own s id t a b w clock (phase_of p))
     (Err OutOfStep)
+-- Not about one change: always out of step.
 step r f own (MPromises s p) w clock = Err OutOfStep
 
 -- Enter: phase propose with the next timestamp, and the own reply noted.
@@ -224,5 +239,7 @@ abbrev pub taken_at : ℕ → Row → Clock → Option ℕ → Result (Left ℕ)
 taken_at own w clock None = Err BallotsSpent
 taken_at own w clock (Some b) = taken own b (joining b w clock)
 
+-- Refused with 16 where the phase is not pending, with 18 where no ballot is left, and with 19 where joining it would
+-- promise a timestamp past the last one.
 abbrev pub taking_over : ℕ → ℕ → Row → Clock → Result (Left ℕ) Refusal
 taking_over r own w clock = cond (pending w.phase) (taken_at own w clock (next_ballot r own w.ballot)) (Err OutOfStep)

@@ -11,7 +11,7 @@ use schedule::{Change, ControllerSet};
 use sites::site::Site;
 
 /// The record of a change and the clock, at a site.
-// kept: without the number of the change, which an entry and a take-over do not take
+// kept: the number of the change is a parameter and no field, since an entry and a take-over have none.
 #[derive(Drop)]
 pub(crate) struct Turn<'a> {
     pub(crate) site: &'a Site,

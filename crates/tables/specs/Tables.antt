@@ -51,7 +51,7 @@ with_pairs ws known (p ∷ ps) = with_pairs ws (with_pair ws known p) ps
 abbrev pub learnt : List Row → List ℕ → Promises → List ℕ
 learnt ws known p = with_pairs ws (joined known p.detached) (take p.count p.pairs)
 
--- an entry of the search where the record is committed, and not above the stable timestamp
+-- an entry of the search where the record is in phase commit (5), and not above the stable timestamp
 abbrev pub due_entry : ℕ → ℕ → Row → Option Due
 due_entry s id w = cond (phase_number w.phase == 5 && nat_le w.timestamp s) (Some (record { timestamp = w.timestamp; id = id })) None
 
@@ -63,6 +63,7 @@ due_from s id (w ∷ ws) = due_entry s id w ∷ due_from s (suc id) ws
 abbrev pub due : ℕ → List Row → Option ℕ
 due s ws = first_in_rank due_eligible due_before (due_from s 1 ws)
 
+-- the record is in phase carried out (6)
 abbrev pub is_carried : Row → Bool
 is_carried w = phase_number w.phase == 6
 

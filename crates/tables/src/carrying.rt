@@ -52,6 +52,7 @@ impl Rows {
     }
 }
 
+// kept: an outcome is a pair of numbers by a rule of the project, as a service answers it.
 /// A change was carried out: its record keeps the place and the outcome.
 pub fn finish(row: &mut Row, place: u32, outcome: (u32, u32))
     ensures { row.new ≡ finished place outcome row.old }
