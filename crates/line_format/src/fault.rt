@@ -19,6 +19,7 @@ pub enum LineFault {
 
 impl LineFault {
     /// The number of this refusal.
+    // kept: a refusal has a number, and nothing is made of one; each kind of refusal maps its own cases.
     pub fn number(&self) -> u32
         ensures { result ≡ fault_number self.now }
     {

@@ -114,6 +114,7 @@ fn promises_in(bytes: &[u8], count: u32) -> Promises
 {
     let mut detached = [0; WORDS];
     fill(bytes, 8, WORDS, &mut detached);
+    // kept: `Pair::default()` was tried here, and the proof did not close.
     let mut pairs = [Pair {
         id: 0,
         timestamp: 0,

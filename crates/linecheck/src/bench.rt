@@ -38,6 +38,7 @@ impl Bench {
     }
 
     /// Adds the answer to a line to a text.
+    // kept: allocator, line and text are three parameters: a struct of them would live for one call.
     pub(crate) fn answer(
         &mut self,
         heap: Global,

@@ -38,6 +38,7 @@ impl Tally {
     }
 
     /// How many changes had this first number.
+    // kept: a number, as in `note`.
     pub fn count(&self, outcome: u32) -> u32
         ensures { result ≡ count_of self.now.counts outcome }
     {

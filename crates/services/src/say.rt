@@ -29,6 +29,7 @@ pub enum SayRuling {
 }
 
 /// The number for who has the say: 0 nobody, else the department.
+// kept: outcomes tell the number, by a rule of the project.
 fn number_of(say: Option<Department>) -> u32
     ensures { result ≡ say_number say }
 {

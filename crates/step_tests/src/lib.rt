@@ -49,6 +49,7 @@ mod tests {
         }
     }
 
+    // kept: this run and the next begin alike and then part; each is read from its first line.
     #[test]
     fn two_that_gave_the_greatest_decide_fast(rt: HostRuntime) -> Result<(), Fail> {
         let home = Site::new(Figures::new(5, 2)?, 1)?;

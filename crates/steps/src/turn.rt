@@ -30,6 +30,7 @@ impl Turn<'_> {
     }
 
     /// Keeps a change and its fast set, and promises the next timestamp that is not below `least`.
+    // kept: change and set are two parameters, as the messages and the record have them; a struct of both would be taken apart at once.
     pub(crate) fn propose(
         &mut self,
         change: &Change,

@@ -44,6 +44,7 @@ impl From<&Message> for Form {
 
 impl Form {
     /// The form's name.
+    // kept: names stand here and in `from_str`, since no macro may write an impl.
     pub fn name(&self) -> &'static str
         ensures { result.now ≡ form_name self.now }
     {
