@@ -48,7 +48,7 @@ impl Rows {
     pub fn carried(&self) -> u32
         ensures { result ≡ carried_count self.now.rows }
     {
-        // kept: `filter` and `count` were tried, and take twice the time.
+        // kept: `filter` and `count` were tried, and take half as much time again.
         self.rows
             .iter()
             .map(|row| u32::from(was_carried(row)))
