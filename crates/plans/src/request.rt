@@ -62,7 +62,7 @@ fn place_of(hour: &str, slot: &str) -> Result<(u32, u32), Misread>
 pub fn asked(line: &str) -> Result<Request, Misread>
     ensures { (words : List (List ℕ)) × FirstWords 6 line.now words × (result ≡ asked_by words) }
 {
-    let mut words = line.split_whitespace();
+    let mut words = line.split_whitespace().fuse();
     // kept: six calls, since with `array::from_fn` and a closure that calls `next` the goal stays open.
     asked_of([
         words.next(),

@@ -1,7 +1,5 @@
 -- How many sets hold 1 to s, and the greatest s that enough of them hold.
-use Rattle.std.proofs.Common.{◌≡◌, ℕ, suc, ◌+◌, ◌<◌, ◌≤◌, max, Bool, true, false, cond, leb, ◌⊎◌, List, [], ◌∷◌, length, take, map, filter, fold, count_by, refl, ap, ◌∙◌, subst, inl, inr, ⊎_elim, arith}
-use Rattle.std.specs.List.{reduce}
-use Rattle.std.specs.Option.{unwrap_or}
+use Rattle.std.proofs.Common.{◌≡◌, ℕ, suc, ◌+◌, ◌<◌, ◌≤◌, max, Bool, cond, ◌&&◌, nat_lt, nat_le, leb, ◌⊎◌, List, [], ◌∷◌, length, take, map, fold, count_by, refl, ap, ◌∙◌, subst, inl, inr, ⊎_elim, arith}
 use Rattle.std.proofs.lemmas.List.{length-take-le}
 use Rattle.std.proofs.lemmas.List.Sums.{sum_by-cons}
 use Rattle.std.proofs.lemmas.Bool.{cases_lt, cond_both, leb-true, leb-false}
@@ -123,27 +121,17 @@ stable_at r known l h =
           (least_above u group);
     }
 
-fold_max : (a : ℕ) (ns : List ℕ) → fold max a ns ≡ max a (fold max 0 ns)
-fold_max a [] = omega arith
-fold_max a (n ∷ ns) = omega (arith, fold_max (max a n) ns, fold_max (max 0 n) ns)
+-- the greater of the best so far and a run, where enough hold it
+abbrev pub better : ℕ → List Timestamps → ℕ → ℕ → ℕ
+better m group best n = cond (nat_lt best n && nat_le m (holders n group)) n best
 
-max_or_zero : (ns : List ℕ) → unwrap_or (reduce max ns) 0 ≡ fold max 0 ns
-max_or_zero [] = refl
-max_or_zero (n ∷ ns) = let e : n ≡ max 0 n = omega arith in ap (λ (a : ℕ). fold max a ns) e
+grows : (m h n best rest : ℕ) → max (cond (nat_lt best n && nat_le m h) n best) rest ≡ max best (cond (nat_le m h) (max n rest) rest)
+grows m h n best rest = grind (arith, nat_tests)
 
-abbrev pub enough : ℕ → List Timestamps → ℕ → Bool
-enough m group n = leb m (holders n group)
-
-folded : (m : ℕ) (group ks : List Timestamps) → fold max 0 (filter (enough m group) (map run ks)) ≡ greatest_run m group ks
-folded m group [] = refl
-folded m group (k ∷ ks) = at (enough m group (run k)) (folded m group ks)
-  where
-    at :
-        (b : Bool) → fold max 0 (filter (enough m group) (map run ks)) ≡ greatest_run m group ks →
-        fold max 0 (cond b (run k ∷ filter (enough m group) (map run ks)) (filter (enough m group) (map run ks))) ≡ cond b (max (run k) (greatest_run m group ks)) (greatest_run m group ks)
-    at true e = omega (arith, fold_max (max 0 (run k)) (filter (enough m group) (map run ks)), e)
-    at false e = e
+folded : (m : ℕ) (group ks : List Timestamps) (best : ℕ) → fold (better m group) best (map run ks) ≡ max best (greatest_run m group ks)
+folded m group [] best = omega arith
+folded m group (k ∷ ks) best = folded m group ks (better m group best (run k)) ∙ grows m (holders (run k) group) (run k) best (greatest_run m group ks)
 
 -- the greatest run, as the code finds it
-pub greatest_is : (m : ℕ) (group : List Timestamps) → unwrap_or (reduce max (filter (enough m group) (map run group))) 0 ≡ greatest_run m group group
-greatest_is m group = max_or_zero (filter (enough m group) (map run group)) ∙ folded m group group
+pub greatest_is : (m : ℕ) (group : List Timestamps) → fold (better m group) 0 (map run group) ≡ greatest_run m group group
+greatest_is m group = omega (arith, folded m group group 0)

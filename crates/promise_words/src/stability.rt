@@ -28,10 +28,12 @@ pub fn stable(figures: &Figures, known: &[Timestamps; 7]) -> u32
     ensures greatest { StableAt figures.now.r known.now result }
 {
     let group = &known[..figures.r as usize];
-    group
-        .iter()
-        .map(Timestamps::run)
-        .filter(|run| held_by_majority(figures, group, *run))
-        .max()
-        .unwrap_or(0)
+    // kept: `filter` and `max` were tried, and count a majority for every run.
+    group.iter().map(Timestamps::run).fold(0, |best, run| {
+        if run > best && held_by_majority(figures, group, run) {
+            run
+        } else {
+            best
+        }
+    })
 }

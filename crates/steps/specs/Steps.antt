@@ -60,9 +60,9 @@ promised p t w = in_phase p (with_promise t (at_timestamp t w))
 abbrev pub committed : ℕ → Row → Row
 committed t w = in_phase Commit (at_timestamp t w)
 
--- t is accepted at ballot b; the clock goes to t beside it (bumped)
+-- t is accepted at ballot b, of which 0 is none; the clock goes to t beside it (bumped)
 abbrev pub accepted : ℕ → ℕ → Row → Row
-accepted t b w = at_ballots b (Some b) (at_timestamp t w)
+accepted t b w = at_ballots b (then_some (not (b == 0)) b) (at_timestamp t w)
 
 -- t is accepted here at a ballot that belongs here, and the own acceptance is the first
 abbrev pub leading : ℕ → ℕ → ℕ → Row → Row

@@ -1,9 +1,7 @@
 -- What a call on a turn leaves behind its references, before and after it.
-use Rattle.std.specs.Prelude.{◌≡◌, Some, Ok, Err, Option, Result}
+use Rattle.std.specs.Prelude.{◌≡◌, Ok, Err, Result}
 use Rattle.promise_words.specs.declared.clock.Clock.{Clock}
 use Rattle.record.specs.declared.row.Row.{Row}
-use Rattle.sites.specs.declared.refusal.Refusal.{Refusal}
-use Rattle.sites.specs.declared.sent.Sent.{Sent}
 use Rattle.steps.specs.Steps.{Left}
 use Rattle.steps.specs.declared.turn.Turn.{Turn}
 
@@ -24,8 +22,3 @@ Gives done before answer after = (answer ≡ done.answer) × Holds done.row done
 abbrev pub Tries : {A E : Type 0} → Result (Left A) E → Turn → Result A E → Turn → Type 0
 Tries (Ok done) before answer after = (answer ≡ Ok done.answer) × Holds done.row done.clock before after
 Tries (Err why) before answer after = (answer ≡ Err why) × Holds before.row.now before.clock.now before after
-
--- a message that is handed out wherever nothing is refused
-abbrev pub handed_out : Result Sent Refusal → Result (Option Sent) Refusal
-handed_out (Ok sent) = Ok (Some sent)
-handed_out (Err why) = Err why

@@ -5,7 +5,7 @@ ghost use Rattle.schedule.specs.Phases.{phase_of};
 ghost use Rattle.sites.specs.declared.refusal.Refusal.TheVariants.{OutOfStep};
 ghost use Rattle.record.specs.Replies.{decision};
 ghost use Rattle.steps.specs.Steps.{Settled, with_proposal, settling, asking, decided, gathered, with_ack, backed, joining, rejoined, with_heard, chosen, followed, told_commit, offered, proposed, counts_proposal, counts_ack, counts_recovery, step};
-ghost use Rattle.steps.specs.Turns.{Gives, Tries, handed_out};
+ghost use Rattle.steps.specs.Turns.{Gives, Tries};
 
 use crate::turn::Turn;
 use line_format::Message;
@@ -53,18 +53,18 @@ impl Turn<'_> {
         change: &Change,
         set: &ControllerSet,
         least: u32,
-    ) -> Result<Sent, Refusal>
-        ensures { Tries (proposed self.old.site.now.own home id (offered change.now set.now least self.old.row.now self.old.clock.now)) self.old (handed_out result) self.new }
+    ) -> Result<Option<Sent>, Refusal>
+        ensures { Tries (proposed self.old.site.now.own home id (offered change.now set.now least self.old.row.now self.old.clock.now)) self.old result self.new }
     {
         let timestamp = self.propose(change, set, least)?;
-        Ok(Sent::to_one(
+        Ok(Some(Sent::to_one(
             home,
             Message::MProposeAck {
                 sender: self.site.own,
                 id,
                 timestamp,
             },
-        ))
+        )))
     }
 
     /// Whether a reply to the proposal counts.
@@ -143,11 +143,11 @@ impl Turn<'_> {
     }
 
     /// Joins a ballot, and tells its owner what was promised or accepted before.
-    fn reply(&mut self, id: u32, leader: u32, ballot: u32) -> Result<Sent, Refusal>
-        ensures { Tries (rejoined self.old.site.now.own leader id ballot (joining ballot self.old.row.now self.old.clock.now)) self.old (handed_out result) self.new }
+    fn reply(&mut self, id: u32, leader: u32, ballot: u32) -> Result<Option<Sent>, Refusal>
+        ensures { Tries (rejoined self.old.site.now.own leader id ballot (joining ballot self.old.row.now self.old.clock.now)) self.old result self.new }
     {
         self.join(ballot)?;
-        Ok(Sent::to_one(
+        Ok(Some(Sent::to_one(
             leader,
             Message::MRecAck {
                 sender: self.site.own,
@@ -157,7 +157,7 @@ impl Turn<'_> {
                 accepted: self.row.accepted.unwrap_or(0),
                 ballot,
             },
-        ))
+        )))
     }
 
     /// Whether a reply to the take-over counts.
@@ -222,9 +222,7 @@ pub fn step(
                 timestamp,
             },
             Phase::Start,
-        ) if set.contains(site.own) => {
-            Ok(Some(turn.answer(*sender, *id, change, set, *timestamp)?))
-        }
+        ) if set.contains(site.own) => turn.answer(*sender, *id, change, set, *timestamp),
         (
             Message::MProposeAck {
                 sender,
@@ -259,7 +257,7 @@ pub fn step(
             Ok(turn.support(*id, *sender))
         }
         (Message::MRec { sender, id, ballot }, _) if pending && turn.row.ballot < *ballot => {
-            Ok(Some(turn.reply(*id, *sender, *ballot)?))
+            turn.reply(*id, *sender, *ballot)
         }
         (
             Message::MRecAck {

@@ -63,13 +63,13 @@ impl Turn<'_> {
         self.clock.bump(t);
     }
 
-    /// Accepts a timestamp at a ballot.
+    /// Accepts a timestamp at a ballot; at ballot 0, which is none, nothing counts as accepted.
     pub(crate) fn accept(&mut self, t: u32, ballot: u32)
         ensures { Holds (accepted t ballot self.old.row.now) (bumped t self.old.clock.now) self.old self.new }
     {
         self.row.timestamp = t;
         self.row.ballot = ballot;
-        self.row.accepted = Some(ballot);
+        self.row.accepted = (ballot != 0).then_some(ballot);
         self.clock.bump(t);
     }
 

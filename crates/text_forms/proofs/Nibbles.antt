@@ -1,11 +1,19 @@
 -- Bytes read and written one after the other.
 use Rattle.std.proofs.Common.{◌≡◌, ℕ, suc, ◌+◌, ◌*◌, ◌/◌, ◌%◌, ◌<◌, ◌≤◌, Bool, true, false, ◌&&◌, eqb, ltb, List, [], ◌∷◌, ◌++◌, length, get_or, drop, is_some, Some, None, Option, sym, refl, ap, ◌∙◌, append_assoc, append-nil, arith}
+use lib.Utf8.{encode}
+use Rattle.std.proofs.lemmas.Str.Ascii.{encode_ascii}
 use Rattle.std.proofs.lemmas.List.{at_drop_more, at_drop_all}
 use Rattle.std.proofs.lemmas.Bool.Decides.{nat_tests, eqb_tells}
 use Rattle.text_forms.specs.Hexadecimal.{digit_value, digit_of, byte_text, before, digit_added, bytes_after, spaced, text_from, BytesBack}
 
 pub digit_value_small : (c d : ℕ) → digit_value c ≡ Some d → d < 16
 digit_value_small c d e = grind (arith, nat_tests)
+
+digit_small : (v : ℕ) → v < 16 → digit_of v < 128
+digit_small v h = grind (arith, nat_tests)
+
+digit_encoded : (v c : ℕ) → v < 16 → c ≡ digit_of v → encode c ≡ digit_of v ∷ []
+digit_encoded v c h e = rw e (encode_ascii (digit_of v) (digit_small v h))
 
 -- the bytes read so far, and those to come
 abbrev pub onto : List ℕ → Option (List ℕ) → Option (List ℕ)
@@ -43,6 +51,10 @@ ended_none text items i (Some d) h sofar e = absurd (let z : ◌≡◌ {A = Bool
 pub ended_some : (text items : List ℕ) (i : ℕ) (first : Option ℕ) → length text ≤ i → bytes_after None text ≡ onto items (bytes_after first (drop i text)) → is_some first ≡ true → None ≡ bytes_after None text
 ended_some text items i None h sofar e = absurd (let z : ◌≡◌ {A = Bool} false true = e in grind arith)
 ended_some text items i (Some d) h sofar e = sym (sofar ∙ ap (onto items) (at_drop_all (bytes_after (Some d)) text i h))
+
+-- two digits as they are printed
+pub byte_encoded : (b high low : ℕ) → b < 256 → high ≡ digit_of (b / 16) → low ≡ digit_of (b % 16) → encode high ++ encode low ≡ byte_text b
+byte_encoded b high low h e f = rw (digit_encoded (b / 16) high (omega arith) e, digit_encoded (b % 16) low (omega arith) f) refl
 
 -- hexadecimal text, read back
 digit_back : (v : ℕ) → v < 16 → (eqb (digit_of v) 32 ≡ false) × (digit_value (digit_of v) ≡ Some v)

@@ -1,8 +1,8 @@
 //! Bytes in hexadecimal.
 
-ghost use Rattle.std.specs.Prelude.{◌≡◌, ◌++◌, IfOk, vec_items, string_bytes, OnOk};
+ghost use Rattle.std.specs.Prelude.{◌≡◌, ◌<◌, ◌++◌, IfOk, vec_items, string_bytes, OnOk};
 ghost use Rattle.std.specs.Option.{option_map};
-ghost use Rattle.text_forms.specs.Hexadecimal.{digit_value, hexadecimal, bytes_of, spaced, bytes_text, BytesBack};
+ghost use Rattle.text_forms.specs.Hexadecimal.{digit_value, hexadecimal, bytes_of, digit_of, spaced, bytes_text, BytesBack};
 
 use std::alloc::{AllocError, Global};
 use std::fmt;
@@ -51,14 +51,25 @@ pub fn bytes(heap: Global, text: &str) -> Result<Option<Vec<u8>>, AllocError>
     Ok(Some(bytes))
 }
 
+/// The digit of a value below 16.
+fn digit_of(value: u8) -> char
+    requires { value < 16 }
+    ensures { result ≡ digit_of value }
+{
+    char::from_digit(u32::from(value), 16).unwrap()
+}
+
 /// A byte, after a space where there is one.
+// kept: two digits; `{byte:02x}` was tried, and words are written in a third more time.
 fn show_byte(space: bool, byte: u8, out: &mut String) -> Result<(), AllocError>
     ensures { OnOk result (string_bytes out.new ≡ string_bytes out.old ++ spaced space byte) }
 {
+    let high = digit_of(byte / 16);
+    let low = digit_of(byte % 16);
     if space {
-        write!(out, " {byte:02x}")
+        write!(out, " {high}{low}")
     } else {
-        write!(out, "{byte:02x}")
+        write!(out, "{high}{low}")
     }
 }
 
